@@ -1,0 +1,202 @@
+-- Laws of places and lists, once, for any list, any number and any queue.
+-- Assumes nothing.
+use Prim.Native.Nat.{ℕ, zero, suc, _+_, _*_, _≤_, _<_}
+use mathlib.Core.Path.{_≡_, refl, sym, ap, _∙_, subst, fun-ext}
+use mathlib.Core.Bool.{Bool, true, false, _||_, true≢false}
+use mathlib.Core.Logic.{_≢_, _⊎_, inl, inr, ⊎-elim}
+use mathlib.Core.List.{List, [], _∷_, _++_}
+use native.Mathlib.Omega.{arith}
+use lib.ListN.{length}
+use lib.Dec.{leb, eqb}
+use borrow.Author.Tests.{leb-true, leb-false, eqb-true, eqb-false, eq-eqb, ne-eqb}
+use Rattle.lists.specs.Lists.{if_then_else_, put, one, total, occurs, without, lowest}
+
+-- a test has two outcomes, and each is known as an equation
+pub either : (t : Bool) → (t ≡ true) ⊎ (t ≡ false)
+either true = inl refl
+either false = inr refl
+
+pub or-false : (a b : Bool) → (a || b) ≡ false → (a ≡ false) × (b ≡ false)
+or-false true b e = absurd (true≢false e)
+or-false false b e = (refl, e)
+
+-- two numbers are the same or not
+pub same? : (a b : ℕ) → (a ≡ b) ⊎ (a ≢ b)
+same? a b = go (eqb a b) refl
+  where
+    go : (t : Bool) → eqb a b ≡ t → (a ≡ b) ⊎ (a ≢ b)
+    go true e = inl (eqb-true a b e)
+    go false e = inr (eqb-false a b e)
+
+pub le? : (a b : ℕ) → (a ≤ b) ⊎ (b < a)
+le? a b = go (leb a b) refl
+  where
+    go : (t : Bool) → leb a b ≡ t → (a ≤ b) ⊎ (b < a)
+    go true e = inl (leb-true a b e)
+    go false e = inr (leb-false a b e)
+
+module _ {ℓ} {A : Type ℓ} where
+  pub put-same : (f : ℕ → A) (i : ℕ) (v : A) → put f i v i ≡ v
+  put-same f i v = rw (eq-eqb i i refl)
+
+  pub put-other : (f : ℕ → A) (i : ℕ) (v : A) (j : ℕ) → j ≢ i → put f i v j ≡ f j
+  put-other f i v j n = rw (ne-eqb j i n)
+
+  -- what holds of v at i, and of f elsewhere, holds of f with v at i
+  pub put-cases : (P : A → Type 0) (f : ℕ → A) (i : ℕ) (v : A) (j : ℕ) → (j ≡ i → P v) → (j ≢ i → P (f j)) → P (put f i v j)
+  put-cases P f i v j a b = ⊎-elim (λ e. rw (eq-eqb j i e) (a e)) (λ n. rw (ne-eqb j i n) (b n)) (same? j i)
+
+pub one-same : (x : ℕ) → one x x ≡ 1
+one-same x = rw (eq-eqb x x refl)
+
+pub one-other : (x p : ℕ) → x ≢ p → one x p ≡ 0
+one-other x p n = rw (ne-eqb x p n)
+
+pub one-le : (x p : ℕ) → one x p ≤ 1
+one-le x p = go (eqb x p)
+  where
+    go : (t : Bool) → (if t then 1 else 0) ≤ 1
+    go true = omega arith
+    go false = omega arith
+
+-- ---- occurs
+
+pub occurs-append : (p : ℕ) (l r : List ℕ) → occurs p (l ++ r) ≡ occurs p l + occurs p r
+occurs-append p [] r = omega arith
+occurs-append p (x ∷ l) r = omega (arith, occurs-append p l r)
+
+pub occurs-rear : (p x : ℕ) (l : List ℕ) → occurs p (l ++ (x ∷ [])) ≡ occurs p l + one x p
+occurs-rear p x l = omega (arith, occurs-append p l (x ∷ []))
+
+pub occurs-without-same : (p : ℕ) (l : List ℕ) → occurs p (without p l) ≡ 0
+occurs-without-same p [] = refl
+occurs-without-same p (x ∷ l) =
+    let ih = occurs-without-same p l in
+    ⊎-elim (λ e. rw (eq-eqb x p e) ih) (λ n. rw (ne-eqb x p n) (rw (ne-eqb x p n) (omega arith))) (same? x p)
+
+pub occurs-without-other : (x p : ℕ) (l : List ℕ) → x ≢ p → occurs x (without p l) ≡ occurs x l
+occurs-without-other x p [] n = refl
+occurs-without-other x p (y ∷ l) n =
+    let ih = occurs-without-other x p l n in
+    ⊎-elim (λ e. rw (eq-eqb y p e) (omega (arith, one-other y x (λ d. n (sym d ∙ e))))) (λ m. rw (ne-eqb y p m) (omega arith)) (same? y p)
+
+pub length-without : (p : ℕ) (l : List ℕ) → length (without p l) ≤ length l
+length-without p [] = omega arith
+length-without p (x ∷ l) =
+    let ih = length-without p l in
+    ⊎-elim (λ e. rw (eq-eqb x p e) (omega arith)) (λ n. rw (ne-eqb x p n) (omega arith)) (same? x p)
+
+-- ---- lowest
+
+-- the lowest number that passes a test passes it, and lies in the range, unless none does
+pub lowest-passes : (i n : ℕ) (t : ℕ → Bool) → lowest i n t ≢ i + n → (i ≤ lowest i n t) × (lowest i n t < i + n) × (t (lowest i n t) ≡ true)
+unfolding lowest
+lowest-passes i zero t d = absurd (d (omega arith))
+lowest-passes i (suc n) t d = go (t i) refl d (λ b. lowest-passes (suc i) n t b)
+  where
+    go : (v : Bool) → t i ≡ v → (if v then i else lowest (suc i) n t) ≢ i + suc n
+        → (lowest (suc i) n t ≢ suc i + n → (suc i ≤ lowest (suc i) n t) × (lowest (suc i) n t < suc i + n) × (t (lowest (suc i) n t) ≡ true))
+        → (i ≤ (if v then i else lowest (suc i) n t)) × ((if v then i else lowest (suc i) n t) < i + suc n) × (t (if v then i else lowest (suc i) n t) ≡ true)
+    go true e d′ ih = (omega arith, omega arith, e)
+    go false e d′ ih = let b = ih (λ x. d′ (omega arith)) in (omega arith, omega arith, b .2)
+
+-- the lowest number is known by passing where none below it does
+pub lowest-is : (i n p : ℕ) (t : ℕ → Bool) → i ≤ p → p < i + n → t p ≡ true → ((j : ℕ) → i ≤ j → j < p → t j ≡ false) → lowest i n t ≡ p
+unfolding lowest
+lowest-is i zero p t a b e h = absurd (omega arith)
+lowest-is i (suc n) p t a b e h = ⊎-elim
+    (λ (d : i ≡ p). rw (ap t d ∙ e) d)
+    (λ (d : i ≢ p). rw (h i (omega arith) (omega arith)) (lowest-is (suc i) n p t (omega arith) (omega arith) e (λ j x y. h j (omega arith) y)))
+    (same? i p)
+
+pub lowest-none : (i n : ℕ) (t : ℕ → Bool) → ((j : ℕ) → i ≤ j → j < i + n → t j ≡ false) → lowest i n t ≡ i + n
+unfolding lowest
+lowest-none i zero t h = omega arith
+lowest-none i (suc n) t h = rw (h i (omega arith) (omega arith)) (omega (arith, lowest-none (suc i) n t (λ j x y. h j (omega arith) (omega arith))))
+
+-- ---- total
+
+pub total-same : (n : ℕ) (f g : ℕ → ℕ) → ((i : ℕ) → i < n → f i ≡ g i) → total n f ≡ total n g
+unfolding total
+total-same zero f g h = refl
+total-same (suc n) f g h = omega (arith, h n (omega arith), total-same n f g (λ i k. h i (omega arith)))
+
+pub total-zero : (n : ℕ) (f : ℕ → ℕ) → ((i : ℕ) → i < n → f i ≡ 0) → total n f ≡ 0
+unfolding total
+total-zero zero f h = refl
+total-zero (suc n) f h = omega (arith, h n (omega arith), total-zero n f (λ i k. h i (omega arith)))
+
+pub total-le : (n : ℕ) (f g : ℕ → ℕ) → ((i : ℕ) → f i ≤ g i) → total n f ≤ total n g
+unfolding total
+total-le zero f g h = omega arith
+total-le (suc n) f g h = omega (arith, h n, total-le n f g h)
+
+-- one entry lower, and none higher
+pub total-lt : (n : ℕ) (f g : ℕ → ℕ) (i : ℕ) → i < n → ((j : ℕ) → f j ≤ g j) → f i < g i → total n f < total n g
+unfolding total
+total-lt zero f g i b h l = absurd (omega arith)
+total-lt (suc n) f g i b h l =
+    ⊎-elim (λ (e : i ≡ n). omega (arith, total-le n f g h, subst (λ (j : ℕ). f j < g j) e l)) (λ (d : i ≢ n). omega (arith, h n, total-lt n f g i (omega arith) h l)) (same? i n)
+
+pub total-times : (k n : ℕ) (f g : ℕ → ℕ) → ((i : ℕ) → f i ≤ k * g i) → total n f ≤ k * total n g
+unfolding total
+total-times k zero f g h = omega arith
+total-times k (suc n) f g h = omega (arith, h n, total-times k n f g h)
+
+pub total-at : (n : ℕ) (f : ℕ → ℕ) (i : ℕ) → i < n → f i ≤ total n f
+unfolding total
+total-at zero f i h = omega arith
+total-at (suc n) f i h = ⊎-elim (λ e. rw e (omega arith)) (λ d. omega (arith, total-at n f i (omega arith))) (same? i n)
+
+pub total-two : (n : ℕ) (f : ℕ → ℕ) (i j : ℕ) → i < n → j < n → i ≢ j → f i + f j ≤ total n f
+unfolding total
+total-two zero f i j h k d = omega arith
+total-two (suc n) f i j h k d =
+    ⊎-elim (λ e. rw e (omega (arith, total-at n f j (omega arith))))
+    (λ a. ⊎-elim (λ e. rw e (omega (arith, total-at n f i (omega arith)))) (λ b. omega (arith, total-two n f i j (omega arith) (omega arith) d)) (same? j n))
+    (same? i n)
+
+-- one entry changed
+pub total-change : (n : ℕ) (f g : ℕ → ℕ) (i : ℕ) → i < n → ((j : ℕ) → j ≢ i → g j ≡ f j) → total n g + f i ≡ total n f + g i
+unfolding total
+total-change zero f g i h k = omega arith
+total-change (suc n) f g i h k =
+    ⊎-elim (λ e. let same : total n g ≡ total n f = total-same n g f (λ j b. k j (omega arith)) in rw e (omega arith))
+    (λ d. omega (arith, k n (λ b. d (sym b)), total-change n f g i (omega arith) k)) (same? i n)
+
+-- ---- who is taken out of a list
+
+pub without-absent : (p : ℕ) (l : List ℕ) → occurs p l ≡ 0 → without p l ≡ l
+without-absent p [] n = refl
+without-absent p (x ∷ l) n =
+    let d : x ≢ p = λ e. omega (arith, subst (λ (z : ℕ). one x z ≡ 1) e (one-same x)) in
+    rw (ne-eqb x p d) (ap (λ (r : List ℕ). x ∷ r) (without-absent p l (omega arith)))
+
+pub without-split : (p : ℕ) (a b : List ℕ) → occurs p a ≡ 0 → occurs p b ≡ 0 → without p (a ++ p ∷ b) ≡ a ++ b
+without-split p [] b n m = rw (eq-eqb p p refl) (without-absent p b m)
+without-split p (x ∷ a) b n m =
+    let d : x ≢ p = λ e. omega (arith, subst (λ (z : ℕ). one x z ≡ 1) e (one-same x)) in
+    rw (ne-eqb x p d) (ap (λ (r : List ℕ). x ∷ r) (without-split p a b (omega arith) m))
+
+-- one who stands in a list has a part before it and a part after it
+pub record Stands (p : ℕ) (l : List ℕ) : Type 0 where
+  pub before : List ℕ
+  pub behind : List ℕ
+  pub whole : l ≡ before ++ p ∷ behind
+  pub first-there : occurs p before ≡ 0
+
+pub stands : (p : ℕ) (l : List ℕ) → 1 ≤ occurs p l → Stands p l
+stands p [] o = absurd (omega arith)
+stands p (x ∷ l) o = ⊎-elim
+    (λ (e : x ≡ p). record { before = []; behind = l; whole = ap (λ (y : ℕ). y ∷ l) e; first-there = refl })
+    (λ (d : x ≢ p).
+    let r = stands p l (omega (arith, one-other x p d)) in
+    record { before = x ∷ r .before; behind = r .behind; whole = ap (λ (y : List ℕ). x ∷ y) (r .whole); first-there = omega (arith, r .first-there, one-other x p d) })
+    (same? x p)
+
+-- p, who stands in queue q and nowhere else, is taken out of q, and no other queue changes
+pub taken-out : (p q : ℕ) (f : ℕ → List ℕ) (a b : List ℕ) → f q ≡ a ++ p ∷ b → occurs p a ≡ 0 → occurs p b ≡ 0 → ((i : ℕ) → i ≢ q → occurs p (f i) ≡ 0)
+    → (λ i. without p (f i)) ≡ put f q (a ++ b)
+taken-out p q f a b e n m away = fun-ext (λ i. ⊎-elim
+    (λ (d : i ≡ q). rw (d, put-same f q (a ++ b), e) (without-split p a b n m))
+    (λ (d : i ≢ q). without-absent p (f i) (away i d) ∙ sym (put-other f q (a ++ b) i d)) (same? i q))

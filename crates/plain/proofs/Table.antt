@@ -1,0 +1,94 @@
+-- "Numbers to try at the edges": P1 to P10 as one table under one statement, and examples of what that table alone does not show.
+-- Each script starts fresh. Assumes nothing.
+use Prim.Native.Nat.{ℕ}
+use mathlib.Core.Path.{_≡_, refl}
+use mathlib.Core.List.{List, [], _∷_, map}
+use lib.ListN.{replicate}
+use Rattle.lists.specs.Lists.{total, lowest}
+use Rattle.plain.specs.Sizes.{capacity, bufferSize, longest, highestCount, slice}
+use Rattle.plain.specs.State.{fresh, spots, held, freeProcess, freeBuffer}
+use Rattle.plain.specs.Runs.{choose, chooseBelow, join, standDown, makeReady, goTo, remove, halt}
+use Rattle.plain.specs.Calls.{Call, Answer, create, stop, end, yield, class, tick, send, receive, read, release, signal, wait, perform, refusals, step, answers, after}
+use Rattle.plain.specs.Listing.{Row, row, queueOf}
+
+-- a call, and the code, number and running process that it answers
+abbrev pub Line : Type 0
+Line = Call × ℕ × ℕ × ℕ
+
+infix 90 _⇒_
+abbrev pub _⇒_ : Call → ℕ × ℕ × ℕ → Line
+c ⇒ a = (c, a .0, a .1, a .2)
+
+abbrev pub script : List Line → List Call
+script l = map (λ (x : Line). x .0) l
+
+abbrev pub shown : Answer × List ℕ → ℕ × ℕ × ℕ
+shown a = (a .0 .code, a .0 .number, a .0 .running)
+
+-- what the script of a row answers, and how far semaphore 15 counts after it; and what the row says of both
+unfoldable pub got : List Line → List (ℕ × ℕ × ℕ) × ℕ
+unfolding answers after step refusals perform choose chooseBelow join standDown makeReady goTo remove halt spots total lowest held freeProcess freeBuffer capacity bufferSize longest highestCount slice
+got l = (map shown (answers fresh (script l)), (after fresh (script l)) .count 15)
+
+abbrev pub told : List Line → List (ℕ × ℕ × ℕ) × ℕ
+told l = (map (λ (x : Line). (x .1, x .2, x .3)) l, 0)
+
+abbrev pub abc : List ℕ
+abc = 65 ∷ 66 ∷ 67 ∷ []
+
+abbrev pub table : List (List Line)
+table =
+    -- P1
+    (tick ⇒ (0, 0, 0) ∷ [])
+    -- P2
+    ∷ (create 2 ⇒ (0, 1, 1) ∷ create 2 ⇒ (0, 2, 1) ∷ tick ⇒ (0, 0, 1) ∷ tick ⇒ (0, 0, 1) ∷ tick ⇒ (0, 0, 2) ∷ [])
+    -- P3
+    ∷ (create 2 ⇒ (0, 1, 1) ∷ create 2 ⇒ (0, 2, 1) ∷ tick ⇒ (0, 0, 1) ∷ create 4 ⇒ (0, 3, 3) ∷ end ⇒ (0, 0, 1) ∷ tick ⇒ (0, 0, 1) ∷ tick ⇒ (0, 0, 2) ∷ [])
+    -- P4
+    ∷ (create 4 ⇒ (0, 1, 1) ∷ [])
+    ∷ (create 5 ⇒ (2, 0, 0) ∷ [])
+    -- P5
+    ∷ (create 1 ⇒ (0, 1, 1) ∷ receive 0 ⇒ (32, 0, 0) ∷ send 0 abc ⇒ (0, 0, 1) ∷ [])
+    -- P6
+    ∷ (create 3 ⇒ (0, 1, 1) ∷ create 3 ⇒ (0, 2, 1) ∷ yield ⇒ (0, 0, 2) ∷ yield ⇒ (0, 0, 1) ∷ [])
+    -- P7
+    ∷ (create 1 ⇒ (0, 1, 1) ∷ stop 1 ⇒ (0, 0, 0) ∷ create 1 ⇒ (0, 1, 1) ∷ [])
+    -- P8
+    ∷ (create 0 ⇒ (0, 1, 1) ∷ class 0 ⇒ (0, 0, 1) ∷ class 4 ⇒ (0, 0, 1) ∷ [])
+    -- P9
+    ∷ (stop 0 ⇒ (1, 0, 0) ∷ stop 32 ⇒ (1, 0, 0) ∷ yield ⇒ (5, 0, 0) ∷ [])
+    -- P10
+    ∷ (create 1 ⇒ (0, 1, 1) ∷ wait 15 ⇒ (32, 0, 0) ∷ signal 15 ⇒ (0, 0, 1) ∷ [])
+    ∷ []
+
+pub table-holds : map got table ≡ map told table
+unfolding got
+table-holds = refl
+
+-- "Mistakes that come easily", where the table does not show them
+abbrev pub mistakes : List (List Line)
+mistakes =
+    -- "A message of 512 bytes is taken, 513 gives 6. Mailbox 16 with 513 bytes gives 3."
+    (send 0 (replicate 512 0) ⇒ (0, 0, 0) ∷ send 0 (replicate 513 0) ⇒ (6, 0, 0) ∷ send 16 (replicate 513 0) ⇒ (3, 0, 0) ∷ [])
+    -- a message that a waiter got is no longer queued
+    ∷ (create 1 ⇒ (0, 1, 1) ∷ receive 0 ⇒ (32, 0, 0) ∷ send 0 abc ⇒ (0, 0, 1) ∷ read 3 ⇒ (0, 3, 1) ∷ release ⇒ (0, 0, 1) ∷ receive 0 ⇒ (32, 0, 0) ∷ [])
+    -- a stopped process leaves nothing in the hand of the next of its number
+    ∷ (create 1 ⇒ (0, 1, 1) ∷ send 0 abc ⇒ (0, 0, 1) ∷ receive 0 ⇒ (0, 3, 1) ∷ stop 1 ⇒ (0, 0, 0) ∷ create 1 ⇒ (0, 1, 1) ∷ read 3 ⇒ (8, 0, 1) ∷ [])
+    ∷ []
+
+pub mistakes-shown : map got mistakes ≡ map told mistakes
+unfolding got
+mistakes-shown = refl
+
+-- The listing while 1 runs with a message in hand and two ticks left, 2 and 3 are ready, 4 waits at semaphore 15 and 5 at mailbox 7: the rows of 0 to 6.
+abbrev pub listed : List Call
+listed =
+    create 2 ∷ create 2 ∷ create 2 ∷ create 4 ∷ wait 15 ∷ create 3 ∷ receive 7 ∷ send 0 (1 ∷ []) ∷ receive 0 ∷ tick ∷ []
+
+abbrev pub columns : Row → ℕ × ℕ × ℕ × ℕ × ℕ × ℕ × ℕ
+columns r = (r .place, r .which, r .position, r .class, r .ticks, r .full, r .length)
+
+pub listing-shown : map (λ (p : ℕ). columns (row (after fresh listed) p)) (0 ∷ 1 ∷ 2 ∷ 3 ∷ 4 ∷ 5 ∷ 6 ∷ [])
+    ≡ (5, 0, 0, 0, 0, 0, 0) ∷ (1, 2, 0, 2, 2, 1, 1) ∷ (2, 2, 0, 2, 3, 0, 0) ∷ (2, 2, 1, 2, 3, 0, 0) ∷ (4, 15, 0, 4, 3, 0, 0) ∷ (3, 7, 0, 3, 3, 0, 0) ∷ (0, 0, 0, 0, 0, 0, 0) ∷ []
+unfolding got row queueOf
+listing-shown = refl

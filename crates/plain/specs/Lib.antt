@@ -1,0 +1,6 @@
+pub mod Sizes
+pub mod State
+pub mod Runs
+pub mod Calls
+pub mod Listing
+pub mod Sound

@@ -1,0 +1,76 @@
+-- "Where everything stands. A state is sound if all of these hold."
+-- Assumes nothing.
+use Prim.Native.Nat.{ℕ, _≤_, _<_}
+use mathlib.Core.Path.{_≡_}
+use mathlib.Core.Logic.{_≢_}
+use mathlib.Core.List.{List, [], _∷_}
+use mathlib.Core.Option.{Option, none, some}
+use lib.ListN.{length}
+use Rattle.lists.specs.Lists.{occurs}
+use Rattle.plain.specs.Sizes.{processes, classes, mailboxes, capacity, buffers, longest, semaphores, highestCount, slice, atMailbox, atSemaphore, queues}
+use Rattle.plain.specs.State.{Message, Procs, State, places, held}
+
+-- p stands in queue q; who stands in none and does not run is unused
+abbrev pub In : Procs → ℕ → ℕ → Type 0
+In s q p = 1 ≤ occurs p (s .queue q)
+
+abbrev pub Used : Procs → ℕ → Type 0
+Used s p = 1 ≤ places s p
+
+-- no message over its largest size
+abbrev pub AllShort : List Message → Type 0
+AllShort [] = Unit {0}
+AllShort (x ∷ l) = (length (x .bytes) ≤ longest) × AllShort l
+
+abbrev pub Short : Option Message → Type 0
+Short none = Unit {0}
+Short (some x) = length (x .bytes) ≤ longest
+
+-- The processes, `slice` ticks to a slice. What is said of the runner says nothing where 0 runs, so it also holds midway in a call, before one is chosen.
+pub record Seated (slice : ℕ) (s : Procs) : Type 0 where
+  -- "Each process 1 to 31 is in exactly one place: unused, running, ready in the queue of its own class, waiting at one mailbox, or waiting at one semaphore."
+  pub one-place : (p : ℕ) → 1 ≤ p → places s p ≤ 1
+  pub own-class : (c p : ℕ) → c < classes → In s c p → s .class p ≡ c
+  -- "0 is the null process, never unused, never on a queue"; numbers from 32 on are nobody's
+  pub null-nowhere : (q : ℕ) → occurs 0 (s .queue q) ≡ 0
+  pub nobody-else : (p : ℕ) → processes ≤ p → places s p ≡ 0
+  pub no-more-queues : (q : ℕ) → queues ≤ q → s .queue q ≡ []
+  -- "Classes: 0 to 4"
+  pub in-class : (p : ℕ) → s .class p < classes
+  -- "Ticks left are 1 to 3 for the running and the ready, 3 for a waiter"
+  pub ticks-left : (p : ℕ) → 1 ≤ p → Used s p → 1 ≤ s .ticks p
+  pub ticks-most : (p : ℕ) → s .ticks p ≤ slice
+  pub waiter-ticks : (q p : ℕ) → classes ≤ q → In s q p → s .ticks p ≡ slice
+  -- "Process 0 and unused blocks carry zeros."
+  pub null-zeros : (s .class 0 ≡ 0) × (s .ticks 0 ≡ 0)
+  pub unused-zeros : (p : ℕ) → places s p ≡ 0 → (s .class p ≡ 0) × (s .ticks p ≡ 0)
+
+-- "If a process other than 0 runs, no queue of a higher class has anyone. If 0 runs, all five queues are empty."
+abbrev pub Highest : Procs → Type 0
+Highest s = (c : ℕ) → c < classes → (s .running ≢ 0 → s .class (s .running) < c) → s .queue c ≡ []
+
+pub record Mail (box : ℕ → List Message) (hand : ℕ → Option Message) : Type 0 where
+  -- "Each buffer is free, queued in one mailbox, or in the hand of one process; the three groups together are the 32 buffers, none twice."
+  pub held-once : (b : ℕ) → held box hand b ≤ 1
+  pub no-more-buffers : (b : ℕ) → buffers ≤ b → held box hand b ≡ 0
+  -- "A buffer that isn't free has a length of 0 to 512"
+  pub queued-short : (m : ℕ) → AllShort (box m)
+  pub hands-short : (p : ℕ) → Short (hand p)
+  -- "At most 8 messages are queued in a mailbox"
+  pub at-most : (m : ℕ) → length (box m) ≤ capacity
+  pub no-more-boxes : (m : ℕ) → mailboxes ≤ m → box m ≡ []
+
+pub record Sound (s : State) : Type 0 where
+  pub seated : Seated slice (s .procs)
+  pub highest : Highest (s .procs)
+  pub mail : Mail (s .box) (s .hand)
+  -- "Unused processes, process 0 and mailbox waiters have empty hands."
+  pub unused-hands : (p : ℕ) → places (s .procs) p ≡ 0 → s .hand p ≡ none
+  pub null-hand : s .hand 0 ≡ none
+  pub waiter-hands : (m p : ℕ) → m < mailboxes → In (s .procs) (atMailbox m) p → s .hand p ≡ none
+  -- ".. and none where a process waits. A semaphore where a process waits counts 0."
+  pub box-waits : (m p : ℕ) → m < mailboxes → In (s .procs) (atMailbox m) p → s .box m ≡ []
+  pub count-waits : (k p : ℕ) → k < semaphores → In (s .procs) (atSemaphore k) p → s .count k ≡ 0
+  -- "Semaphores: 0 to 15, count 0 to 65,535"
+  pub counts : (k : ℕ) → s .count k ≤ highestCount
+  pub no-more-counts : (k : ℕ) → semaphores ≤ k → s .count k ≡ 0

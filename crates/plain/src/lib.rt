@@ -1,0 +1,1 @@
+// The plain kernel of document 01: definitions in specs/. No code.

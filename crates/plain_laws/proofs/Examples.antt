@@ -1,0 +1,43 @@
+-- The counts of the theorems at work: each example is computed, and each count in it is met.
+-- Assumes nothing.
+use Prim.Native.Nat.{ℕ}
+use mathlib.Core.Path.{_≡_, refl}
+use mathlib.Core.List.{List, [], _∷_}
+use Rattle.lists.specs.Lists.{total, lowest}
+use Rattle.plain.specs.Sizes.{capacity, bufferSize, longest, slice}
+use Rattle.plain.specs.State.{State, fresh, spots, held, freeProcess, freeBuffer}
+use Rattle.plain.specs.Runs.{choose, chooseBelow, join, standDown, makeReady, goTo, remove, halt}
+use Rattle.plain.specs.Calls.{Call, create, end, tick, send, receive, perform, refusals, step, after}
+use Rattle.plain_laws.specs.History.{sent, gone, countAhead, ticksSeen, turnsBefore}
+
+-- the state that calls lead to from fresh
+unfoldable reached : List Call → State
+unfolding after step refusals perform choose chooseBelow join standDown makeReady goTo remove halt spots total lowest held freeProcess freeBuffer capacity bufferSize longest slice
+reached cs = after fresh cs
+
+-- 2 is ready behind 1, who runs: one ahead. It sees three ticks before it runs, as many as the bound allows, and 1 has two more turns.
+equals : List Call
+equals = create 2 ∷ create 2 ∷ []
+
+ticks : List Call
+ticks = tick ∷ tick ∷ tick ∷ tick ∷ tick ∷ []
+
+bound-met : (countAhead (reached equals .procs) 2 ≡ 1) × (ticksSeen 2 (reached equals) ticks ≡ 3) × (turnsBefore 1 2 (reached equals) ticks ≡ 2)
+unfolding reached equals ticks countAhead ticksSeen turnsBefore
+bound-met = (refl, refl, refl)
+
+-- 1 is preempted by 3 after a tick and goes to the front: nobody is ahead of it, and it sees no tick before it runs again.
+preempted : List Call
+preempted = create 2 ∷ create 2 ∷ tick ∷ create 4 ∷ []
+
+front-waits-for-none : (countAhead (reached preempted .procs) 1 ≡ 0) × (ticksSeen 1 (reached preempted) (tick ∷ tick ∷ end ∷ tick ∷ []) ≡ 0) × (countAhead (reached preempted .procs) 2 ≡ 1)
+unfolding reached preempted countAhead ticksSeen
+front-waits-for-none = (refl, refl, refl)
+
+-- three accepted sends to mailbox 0: one to a waiter, one received later, one still queued
+posted : List Call
+posted = create 1 ∷ receive 0 ∷ send 0 [] ∷ send 0 [] ∷ send 0 [] ∷ create 2 ∷ receive 0 ∷ []
+
+messages-counted : (sent 0 fresh posted ≡ 3) × (gone 0 fresh posted ≡ 2)
+unfolding reached posted sent gone
+messages-counted = (refl, refl)

@@ -1,0 +1,13 @@
+pub mod Places
+pub mod Seats
+pub mod Settle
+pub mod Frames
+pub mod Calls
+pub mod Mail
+pub mod Sound
+pub mod Refusals
+pub mod Messages
+pub mod Ahead
+pub mod Fair
+pub mod Theorems
+pub mod Examples

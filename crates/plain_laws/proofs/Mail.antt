@@ -1,0 +1,131 @@
+-- Who holds a buffer: messages that are queued, taken into a hand, and given back keep the mail sound.
+-- Assumes nothing.
+use Prim.Native.Nat.{ℕ, _+_, _≤_, _<_}
+use mathlib.Core.Path.{_≡_, ap, _∙_, subst}
+use mathlib.Core.Bool.{false}
+use mathlib.Core.Logic.{_≢_, ⊎-elim}
+use mathlib.Core.List.{List, [], _∷_, _++_}
+use mathlib.Core.Option.{Option, none, some}
+use native.Mathlib.Omega.{arith}
+use lib.ListN.{length, length-append}
+use lib.Dec.{eqb}
+use borrow.Author.Tests.{eqb-true, eqb-false}
+use Rattle.lists.specs.Lists.{put, occurs, lowest}
+use Rattle.lists.proofs.Laws.{same?, put-same, put-other, put-cases, one-le, one-other, occurs-append, total-change, lowest-passes}
+use Rattle.plain.specs.Sizes.{processes, mailboxes, capacity, buffers, longest}
+use Rattle.plain.specs.State.{Message, State, lies, buffersOf, inHand, held, free, freeBuffer}
+use Rattle.plain.specs.Sound.{AllShort, Short, Mail}
+
+held-box : (box : ℕ → List Message) (hand : ℕ → Option Message) (m : ℕ) (l : List Message) (b : ℕ) → m < mailboxes
+    → held (put box m l) hand b + occurs b (buffersOf (box m)) ≡ held box hand b + occurs b (buffersOf l)
+unfolding held
+held-box box hand m l b h =
+    omega (
+      arith,
+      total-change mailboxes (λ i. occurs b (buffersOf (box i))) (λ i. occurs b (buffersOf (put box m l i))) m h
+          (λ j d. ap (λ (a : List Message). occurs b (buffersOf a)) (put-other box m l j d)),
+      ap (λ (a : List Message). occurs b (buffersOf a)) (put-same box m l),
+    )
+
+held-hand : (box : ℕ → List Message) (hand : ℕ → Option Message) (p : ℕ) (x : Option Message) (b : ℕ) → p < processes
+    → held box (put hand p x) b + occurs b (inHand (hand p)) ≡ held box hand b + occurs b (inHand x)
+unfolding held
+held-hand box hand p x b h =
+    omega (
+      arith,
+      total-change processes (λ i. occurs b (inHand (hand i))) (λ i. occurs b (inHand (put hand p x i))) p h
+          (λ j d. ap (λ (a : Option Message). occurs b (inHand a)) (put-other hand p x j d)),
+      ap (λ (a : Option Message). occurs b (inHand a)) (put-same hand p x),
+    )
+
+buffers-rear : (l : List Message) (x : Message) (b : ℕ) → occurs b (buffersOf (l ++ (x ∷ []))) ≡ occurs b (buffersOf l) + occurs b (lies x)
+buffers-rear [] x b = omega (arith, occurs-append b (lies x) [])
+buffers-rear (y ∷ l) x b = omega (arith, occurs-append b (lies y) (buffersOf (l ++ (x ∷ []))), occurs-append b (lies y) (buffersOf l), buffers-rear l x b)
+
+short-rear : (l : List Message) (x : Message) → AllShort l → length (x .bytes) ≤ longest → AllShort (l ++ (x ∷ []))
+short-rear [] x a h = (h, tt)
+short-rear (y ∷ l) x a h = (a .0, short-rear l x (a .1) h)
+
+-- a message that may come in: its buffers are free and there are such, and it is not too long
+pub record Fits (box : ℕ → List Message) (hand : ℕ → Option Message) (x : Message) : Type 0 where
+  pub once : (b : ℕ) → held box hand b + occurs b (lies x) ≤ 1
+  pub range : (b : ℕ) → buffers ≤ b → occurs b (lies x) ≡ 0
+  pub short : length (x .bytes) ≤ longest
+
+-- one in the lowest free buffer does
+pub fits-free : (s : State) (bytes : List ℕ) → Mail (s .box) (s .hand) → eqb (freeBuffer s) buffers ≡ false → length bytes ≤ longest
+    → Fits (s .box) (s .hand) (record { buffer = freeBuffer s; bytes = bytes })
+unfolding freeBuffer
+fits-free s bytes k e short =
+    let b₀ : ℕ = lowest 0 buffers (free s) in
+    let l = lowest-passes 0 buffers (free s) (eqb-false b₀ buffers e) in
+    let none-holds : held (s .box) (s .hand) b₀ ≡ 0 = eqb-true (held (s .box) (s .hand) b₀) 0 (l .2) in
+    record {
+      once = λ b. ⊎-elim (λ (d : b₀ ≡ b). omega (arith, one-le b₀ b, subst (λ (z : ℕ). held (s .box) (s .hand) z ≡ 0) d none-holds))
+          (λ (d : b₀ ≢ b). omega (arith, k .held-once b, one-other b₀ b d)) (same? b₀ b);
+      range = λ b h. omega (arith, one-other b₀ b (omega arith));
+      short = short;
+    }
+
+module _ (box : ℕ → List Message) (hand : ℕ → Option Message) (k : Mail box hand) where
+  -- a message goes last into mailbox m
+  pub mail-queue : (m : ℕ) (x : Message) → m < mailboxes → length (box m) < capacity → Fits box hand x → Mail (put box m (box m ++ (x ∷ []))) hand
+  mail-queue m x hm room f =
+      let l : List Message = box m ++ (x ∷ []) in
+      let more : (b : ℕ) → held (put box m l) hand b ≡ held box hand b + occurs b (lies x) = λ b. omega (arith, held-box box hand m l b hm, buffers-rear (box m) x b) in
+      record {
+        held-once = λ b. omega (arith, more b, f .once b);
+        no-more-buffers = λ b h. omega (arith, more b, k .no-more-buffers b h, f .range b h);
+        queued-short = λ i. put-cases AllShort box m l i (λ e. short-rear (box m) x (k .queued-short m) (f .short)) (λ d. k .queued-short i);
+        hands-short = k .hands-short;
+        at-most = λ i. put-cases (λ (a : List Message). length a ≤ capacity) box m l i (λ e. omega (arith, length-append (box m) (x ∷ []))) (λ d. k .at-most i);
+        no-more-boxes = λ i h. put-other box m l i (omega arith) ∙ k .no-more-boxes i h;
+      }
+
+  -- a message goes into an empty hand
+  pub mail-hand : (p : ℕ) (x : Message) → p < processes → hand p ≡ none → Fits box hand x → Mail box (put hand p (some x))
+  mail-hand p x hp empty f =
+      let more : (b : ℕ) → held box (put hand p (some x)) b ≡ held box hand b + occurs b (lies x) =
+      λ b. omega (arith, held-hand box hand p (some x) b hp, ap (λ (a : Option Message). occurs b (inHand a)) empty) in
+      record {
+        held-once = λ b. omega (arith, more b, f .once b);
+        no-more-buffers = λ b h. omega (arith, more b, k .no-more-buffers b h, f .range b h);
+        queued-short = k .queued-short;
+        hands-short = λ i. put-cases Short hand p (some x) i (λ e. f .short) (λ d. k .hands-short i);
+        at-most = k .at-most;
+        no-more-boxes = k .no-more-boxes;
+      }
+
+  -- the first message of m goes into an empty hand
+  pub mail-take : (m p : ℕ) (x : Message) (l : List Message) → m < mailboxes → p < processes → box m ≡ x ∷ l → hand p ≡ none → Mail (put box m l) (put hand p (some x))
+  mail-take m p x l hm hp e empty =
+      let same : (b : ℕ) → held (put box m l) (put hand p (some x)) b ≡ held box hand b = λ b. omega (
+        arith,
+        held-hand (put box m l) hand p (some x) b hp,
+        held-box box hand m l b hm,
+        ap (λ (a : Option Message). occurs b (inHand a)) empty,
+        ap (λ (a : List Message). occurs b (buffersOf a)) e,
+        occurs-append b (lies x) (buffersOf l),
+      ) in
+      let was : AllShort (x ∷ l) = subst AllShort e (k .queued-short m) in
+      record {
+        held-once = λ b. omega (arith, same b, k .held-once b);
+        no-more-buffers = λ b h. same b ∙ k .no-more-buffers b h;
+        queued-short = λ i. put-cases AllShort box m l i (λ d. was .1) (λ d. k .queued-short i);
+        hands-short = λ i. put-cases Short hand p (some x) i (λ d. was .0) (λ d. k .hands-short i);
+        at-most = λ i. put-cases (λ (a : List Message). length a ≤ capacity) box m l i (λ d. omega (arith, k .at-most m, ap length e)) (λ d. k .at-most i);
+        no-more-boxes = λ i h. put-other box m l i (omega arith) ∙ k .no-more-boxes i h;
+      }
+
+  -- a hand is emptied
+  pub mail-drop : (p : ℕ) → p < processes → Mail box (put hand p none)
+  mail-drop p hp =
+      let less : (b : ℕ) → held box (put hand p none) b ≤ held box hand b = λ b. omega (arith, held-hand box hand p none b hp) in
+      record {
+        held-once = λ b. omega (arith, less b, k .held-once b);
+        no-more-buffers = λ b h. omega (arith, less b, k .no-more-buffers b h);
+        queued-short = k .queued-short;
+        hands-short = λ i. put-cases Short hand p none i (λ e. tt) (λ d. k .hands-short i);
+        at-most = k .at-most;
+        no-more-boxes = k .no-more-boxes;
+      }

@@ -1,0 +1,63 @@
+-- The theorems about the plain kernel, as statements. Each is proved under its own name in proofs/Theorems.antt.
+-- Assumes nothing.
+use Prim.Native.Nat.{ℕ, _+_, _*_, _≤_}
+use mathlib.Core.Path.{_≡_}
+use mathlib.Core.Bool.{true, false}
+use mathlib.Core.List.{List, [], _∷_, _++_}
+use lib.ListN.{length}
+use Rattle.lists.specs.Lists.{occurs}
+use Rattle.plain.specs.Sizes.{slice}
+use Rattle.plain.specs.State.{State, fresh}
+use Rattle.plain.specs.Calls.{Call, Answer, Refusal, refusals, refused, step, answers, after}
+use Rattle.plain.specs.Sound.{Sound}
+use Rattle.plain_laws.specs.History.{First, codes, inOrder, order, isRefusal, sent, gone, Ready, isAhead, countAhead, ticksSeen, turnsBefore}
+
+-- 1. A fresh state is sound, every call keeps that, and so every state that calls lead to from fresh is sound.
+pub record Soundness : Type 0 where
+  pub at-first : Sound fresh
+  pub kept : (s : State) (c : Call) → Sound s → Sound (step s c .next)
+  pub always : (cs : List Call) → Sound (after fresh cs)
+
+-- 2. A refusal is given where its condition holds and none before it in the order does, and at no other time; it changes nothing.
+pub record Refusals : Type 0 where
+  pub given : (s : State) (c : Call) (r : Refusal) → First (refusals s c) r → step s c ≡ refused r s
+  pub only : (s : State) (c : Call) → isRefusal (step s c .answer) ≡ true → (r : Refusal) × First (refusals s c) r
+  pub unchanged : (s : State) (c : Call) → isRefusal (step s c .answer) ≡ true → step s c .next ≡ s
+  pub ordered : (s : State) (c : Call) → inOrder (codes (refusals s c)) order ≡ true
+
+-- 3. "Over any calls from fresh, for each mailbox: accepted sends equal messages queued now plus messages that went from it into a hand."
+abbrev pub Messages : Type 0
+Messages = (m : ℕ) (cs : List Call) → sent m fresh cs ≡ length (after fresh cs .box m) + gone m fresh cs
+
+-- 4. Demand 3, for every p that is ready in a state that calls lead to from fresh, however it came to be, whatever is called then (cs).
+-- Nothing about `slice` is used but that it is at least 1.
+pub record Fair (s : State) (p : ℕ) : Type 0 where
+  -- "sees at most 3 k ticks fall while its class runs before it runs or is stopped", k of its class being ahead of it
+  pub few-ticks : (cs : List Call) → ticksSeen p s cs ≤ slice * countAhead (s .procs) p
+  -- nobody who is not ahead of it runs as one of its class before it
+  pub nobody-passes : (x : ℕ) (cs : List Call) → isAhead (s .procs) p x ≡ false → turnsBefore x p s cs ≡ 0
+  -- "and nobody who joins the rear after it runs from there before it": x has joined the rear, p stands before it
+  pub rear-waits : (x : ℕ) (l : List ℕ) (cs : List Call) → s .procs .queue (s .procs .class p) ≡ l ++ (x ∷ []) → 1 ≤ occurs p l → turnsBefore x p s cs ≡ 0
+
+abbrev pub Fairness : Type 0
+Fairness = (cs : List Call) (p : ℕ) → Ready (after fresh cs .procs) p → Fair (after fresh cs) p
+
+-- 5. A kernel that refuses everything, answers a constant or never moves would meet 4 alone: nobody ever becomes ready, or nobody behind another.
+-- It does not answer as the plain kernel does, which demand 2 asks: two creates from fresh are accepted, with two different numbers.
+pub record Kernel : Type 1 where
+  pub Memory : Type 0
+  pub start : Memory
+  pub reply : Memory → Call → Answer × List ℕ
+  pub next : Memory → Call → Memory
+
+abbrev pub replies : (K : Kernel) → K .Memory → List Call → List (Answer × List ℕ)
+replies K s [] = []
+replies K s (c ∷ cs) = K .reply s c ∷ replies K (K .next s c) cs
+
+abbrev pub AnswersAsPlain : Kernel → Type 0
+AnswersAsPlain K = (cs : List Call) → replies K (K .start) cs ≡ answers fresh cs
+
+pub record UselessShutOut : Type 1 where
+  pub refuses-all : (K : Kernel) → ((s : K .Memory) (c : Call) → isRefusal (K .reply s c .0) ≡ true) → AnswersAsPlain K → ⊥
+  pub constant : (K : Kernel) (a : Answer × List ℕ) → ((s : K .Memory) (c : Call) → K .reply s c ≡ a) → AnswersAsPlain K → ⊥
+  pub never-moves : (K : Kernel) → ((s : K .Memory) (c : Call) → K .next s c ≡ s) → AnswersAsPlain K → ⊥
