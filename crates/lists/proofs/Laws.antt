@@ -114,6 +114,11 @@ unfolding lowest
 lowest-none i zero t h = omega arith
 lowest-none i (suc n) t h = rw (h i (omega arith) (omega arith)) (omega (arith, lowest-none (suc i) n t (λ j x y. h j (omega arith) (omega arith))))
 
+pub lowest-same : (i n : ℕ) (t u : ℕ → Bool) → ((j : ℕ) → i ≤ j → j < i + n → t j ≡ u j) → lowest i n t ≡ lowest i n u
+unfolding lowest
+lowest-same i zero t u h = refl
+lowest-same i (suc n) t u h = rw (h i (omega arith) (omega arith), lowest-same (suc i) n t u (λ j a b. h j (omega arith) (omega arith)))
+
 -- ---- total
 
 pub total-same : (n : ℕ) (f g : ℕ → ℕ) → ((i : ℕ) → i < n → f i ≡ g i) → total n f ≡ total n g
