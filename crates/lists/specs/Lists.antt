@@ -23,6 +23,11 @@ total (suc n) f = f n + total n f
 abbrev pub one : ℕ → ℕ → ℕ
 one x p = if eqb x p then 1 else 0
 
+-- a list has someone
+abbrev pub someone {ℓ} : {A : Type ℓ} → List A → Bool
+someone [] = false
+someone (x ∷ l) = true
+
 -- how often p stands in a list
 abbrev pub occurs : ℕ → List ℕ → ℕ
 occurs p [] = 0

@@ -9,12 +9,12 @@ use native.Mathlib.Omega.{arith}
 use lib.ListN.{length, length-append}
 use lib.Dec.{eqb}
 use borrow.Author.Tests.{eq-eqb, ne-eqb}
-use Rattle.lists.specs.Lists.{put}
+use Rattle.lists.specs.Lists.{put, someone}
 use Rattle.lists.proofs.Laws.{either, same?, put-same, put-other}
 use Rattle.plain.specs.Sizes.{atMailbox, atSemaphore}
 use Rattle.plain.specs.State.{Message, State, fresh, freeBuffer}
 use Rattle.plain.specs.Calls.{Call, create, stop, end, yield, class, tick, send, receive, read, release, signal, wait, Refusal, Outcome, done, deliver, fetch, wake, lower, perform, refusals, judge, step, after}
-use Rattle.plain_laws.specs.History.{kind, Kind, posts, fetches, other, as-one, someone, isSend, isGone, isDone, sent, gone}
+use Rattle.plain_laws.specs.History.{kind, Kind, posts, fetches, other, as-one, isSend, isGone, isDone, sent, gone}
 
 -- what a call of this kind does to mailbox m
 abbrev Even : ℕ → State → Kind → Outcome → Type 0

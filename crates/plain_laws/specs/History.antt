@@ -5,7 +5,7 @@ use mathlib.Core.Path.{_≡_}
 use mathlib.Core.Bool.{Bool, true, false, not, _&&_, _||_}
 use mathlib.Core.List.{List, [], _∷_, _++_}
 use lib.Dec.{eqb}
-use Rattle.lists.specs.Lists.{if_then_else_, total, occurs}
+use Rattle.lists.specs.Lists.{if_then_else_, someone, total, occurs}
 use Rattle.plain.specs.Sizes.{processes, atMailbox}
 use Rattle.plain.specs.State.{Procs, State, unused}
 use Rattle.plain.specs.Calls.{Call, create, stop, end, yield, class, tick, send, receive, read, release, signal, wait, Answer, Refusal, Outcome, step}
@@ -69,10 +69,6 @@ isRefusal a = not (eqb (a .code) 0 || eqb (a .code) 32)
 
 abbrev pub as-one : Bool → ℕ
 as-one t = if t then 1 else 0
-
-abbrev pub someone : List ℕ → Bool
-someone [] = false
-someone (w ∷ l) = true
 
 -- a send to m; a message that goes from m into a hand, a waiter's hand included
 abbrev pub isSend : ℕ → Kind → Bool
