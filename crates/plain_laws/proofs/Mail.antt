@@ -16,7 +16,7 @@ use Rattle.plain.specs.Sizes.{processes, mailboxes, capacity, buffers, longest}
 use Rattle.plain.specs.State.{Message, State, lies, buffersOf, inHand, held, free, freeBuffer}
 use Rattle.plain.specs.Sound.{AllShort, Short, Mail}
 
-held-box : (box : ℕ → List Message) (hand : ℕ → Option Message) (m : ℕ) (l : List Message) (b : ℕ) → m < mailboxes
+pub held-box : (box : ℕ → List Message) (hand : ℕ → Option Message) (m : ℕ) (l : List Message) (b : ℕ) → m < mailboxes
     → held (put box m l) hand b + occurs b (buffersOf (box m)) ≡ held box hand b + occurs b (buffersOf l)
 unfolding held
 held-box box hand m l b h =
@@ -27,7 +27,7 @@ held-box box hand m l b h =
       ap (λ (a : List Message). occurs b (buffersOf a)) (put-same box m l),
     )
 
-held-hand : (box : ℕ → List Message) (hand : ℕ → Option Message) (p : ℕ) (x : Option Message) (b : ℕ) → p < processes
+pub held-hand : (box : ℕ → List Message) (hand : ℕ → Option Message) (p : ℕ) (x : Option Message) (b : ℕ) → p < processes
     → held box (put hand p x) b + occurs b (inHand (hand p)) ≡ held box hand b + occurs b (inHand x)
 unfolding held
 held-hand box hand p x b h =
@@ -38,7 +38,7 @@ held-hand box hand p x b h =
       ap (λ (a : Option Message). occurs b (inHand a)) (put-same hand p x),
     )
 
-buffers-rear : (l : List Message) (x : Message) (b : ℕ) → occurs b (buffersOf (l ++ (x ∷ []))) ≡ occurs b (buffersOf l) + occurs b (lies x)
+pub buffers-rear : (l : List Message) (x : Message) (b : ℕ) → occurs b (buffersOf (l ++ (x ∷ []))) ≡ occurs b (buffersOf l) + occurs b (lies x)
 buffers-rear [] x b = omega (arith, occurs-append b (lies x) [])
 buffers-rear (y ∷ l) x b = omega (arith, occurs-append b (lies y) (buffersOf (l ++ (x ∷ []))), occurs-append b (lies y) (buffersOf l), buffers-rear l x b)
 

@@ -10,10 +10,11 @@ use lib.ListN.{length, length-append}
 use lib.Dec.{eqb}
 use borrow.Author.Tests.{eq-eqb, ne-eqb}
 use Rattle.lists.specs.Lists.{put, someone}
-use Rattle.lists.proofs.Laws.{either, same?, put-same, put-other}
+use Rattle.lists.proofs.Laws.{same?, put-same, put-other}
 use Rattle.plain.specs.Sizes.{atMailbox, atSemaphore}
 use Rattle.plain.specs.State.{Message, State, fresh, freeBuffer}
-use Rattle.plain.specs.Calls.{Call, create, stop, end, yield, class, tick, send, receive, read, release, signal, wait, Refusal, Outcome, done, deliver, fetch, wake, lower, perform, refusals, judge, step, after}
+use Rattle.plain.specs.Calls.{Call, create, stop, end, yield, class, tick, send, receive, read, release, signal, wait, Refusal, Outcome, done, refused, deliver, fetch, wake, lower, perform, refusals, step, after}
+use Rattle.plain_laws.proofs.Refusals.{judge-cases, nonzero}
 use Rattle.plain_laws.specs.History.{kind, Kind, posts, fetches, other, as-one, isSend, isGone, isDone, sent, gone}
 
 -- what a call of this kind does to mailbox m
@@ -21,28 +22,8 @@ abbrev Even : ℕ → State → Kind → Outcome → Type 0
 Even m s i o = as-one (isDone o && isSend m i) + length (s .box m) ≡ length (o .next .box m) + as-one (isDone o && isGone m s i)
 
 -- a refused call counts nowhere
-abbrev NonZero : List Refusal → Type 0
-NonZero [] = Unit {0}
-NonZero (r ∷ rs) = (eqb (r .code) 0 ≡ false) × NonZero rs
-
-judge-even : (m : ℕ) (s : State) (i : Kind) (rs : List Refusal) (o : Outcome) → NonZero rs → Even m s i o → Even m s i (judge rs s o)
-judge-even m s i [] o z f = f
-judge-even m s i (r ∷ rs) o z f = ⊎-elim (λ e. rw e (rw (z .0) (omega arith))) (λ e. rw e (judge-even m s i rs o (z .1) f)) (either (r .holds))
-
-nonzero : (s : State) (c : Call) → NonZero (refusals s c)
-unfolding refusals
-nonzero s (create c) = (refl, (refl, tt))
-nonzero s (stop p) = (refl, tt)
-nonzero s end = (refl, tt)
-nonzero s yield = (refl, tt)
-nonzero s (class c) = (refl, (refl, tt))
-nonzero s tick = tt
-nonzero s (send m b) = (refl, (refl, (refl, (refl, tt))))
-nonzero s (receive m) = (refl, (refl, (refl, tt)))
-nonzero s (read room) = (refl, (refl, (refl, tt)))
-nonzero s release = (refl, (refl, tt))
-nonzero s (signal k) = (refl, (refl, tt))
-nonzero s (wait k) = (refl, (refl, tt))
+refused-even : (m : ℕ) (s : State) (i : Kind) (r : Refusal) → eqb (r .code) 0 ≡ false → Even m s i (refused r s)
+refused-even m s i r e = rw e (omega arith)
 
 -- the message is queued last, or goes to the first waiter
 deliver-even : (m i : ℕ) (x : Message) (l : List ℕ) (s : State) → s .procs .queue (atMailbox i) ≡ l → Even m s (posts i) (done 0 (deliver i x l s))
@@ -97,7 +78,7 @@ perform-even m s (wait k) = still m s (lower k (s .count k) s) (lower-box k (s .
 
 step-even : (m : ℕ) (s : State) (c : Call) → Even m s (kind c) (step s c)
 unfolding step
-step-even m s c = judge-even m s (kind c) (refusals s c) (perform s c) (nonzero s c) (perform-even m s c)
+step-even m s c = judge-cases (Even m s (kind c)) (refusals s c) s (perform s c) (nonzero s c) (λ r e. refused-even m s (kind c) r e) (λ p. perform-even m s c)
 
 counted : (m : ℕ) (s : State) (cs : List Call) → sent m s cs + length (s .box m) ≡ length ((after s cs) .box m) + gone m s cs
 unfolding sent gone after

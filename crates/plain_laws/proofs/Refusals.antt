@@ -2,6 +2,7 @@
 -- Assumes nothing.
 use Prim.Native.Nat.{ℕ, zero, suc}
 use mathlib.Core.Path.{_≡_, refl, sym, ap, _∙_}
+use lib.Dec.{eqb}
 use mathlib.Core.Bool.{true, false, true≢false}
 use mathlib.Core.Logic.{_⊎_, inl, inr, ⊎-elim}
 use mathlib.Core.List.{List, [], _∷_, _++_}
@@ -80,3 +81,28 @@ in-order s (read room) = refl
 in-order s release = refl
 in-order s (signal k) = refl
 in-order s (wait k) = refl
+
+-- ---- a call's outcome by cases: refused, with a code that is not 0, or what the call does
+
+abbrev pub NonZero : List Refusal → Type 0
+NonZero [] = Unit {0}
+NonZero (r ∷ rs) = (eqb (r .code) 0 ≡ false) × NonZero rs
+
+pub judge-cases : (P : Outcome → Type 0) (rs : List Refusal) (s : State) (o : Outcome) → NonZero rs → ((r : Refusal) → eqb (r .code) 0 ≡ false → P (refused r s)) → (Passed rs → P o) → P (judge rs s o)
+judge-cases P [] s o z f g = g tt
+judge-cases P (r ∷ rs) s o z f g = ⊎-elim (λ e. rw e (f r (z .0))) (λ e. rw e (judge-cases P rs s o (z .1) f (λ p. g (e, p)))) (either (r .holds))
+
+pub nonzero : (s : State) (c : Call) → NonZero (refusals s c)
+unfolding refusals
+nonzero s (create c) = (refl, (refl, tt))
+nonzero s (stop p) = (refl, tt)
+nonzero s end = (refl, tt)
+nonzero s yield = (refl, tt)
+nonzero s (class c) = (refl, (refl, tt))
+nonzero s tick = tt
+nonzero s (send m b) = (refl, (refl, (refl, (refl, tt))))
+nonzero s (receive m) = (refl, (refl, (refl, tt)))
+nonzero s (read room) = (refl, (refl, (refl, tt)))
+nonzero s release = (refl, (refl, tt))
+nonzero s (signal k) = (refl, (refl, tt))
+nonzero s (wait k) = (refl, (refl, tt))
