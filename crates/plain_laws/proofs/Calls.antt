@@ -48,7 +48,7 @@ absent : (p : ℕ) (s : Procs) → ((q : ℕ) → occurs p (s .queue q) ≡ 0) �
 absent p s h = fun-ext (λ i. without-absent p (s .queue i) (h i))
 
 -- the running process joins the rear of queue q as one of class c; choose
-goTo-settles : (q c : ℕ) (s : Procs) → ((i : ℕ) → occurs (s .running) (s .queue i) ≡ 0) → goTo q (rank (s .running) c s) ≡ settle (toRear q (s .running) c slice s)
+pub goTo-settles : (q c : ℕ) (s : Procs) → ((i : ℕ) → occurs (s .running) (s .queue i) ≡ 0) → goTo q (rank (s .running) c s) ≡ settle (toRear q (s .running) c slice s)
 unfolding goTo settle join
 goTo-settles q c s h =
     rw (rear-from q (s .running) c slice s (s .queue) (absent (s .running) s h), eq-eqb (s .running) (s .running) refl)
@@ -115,7 +115,7 @@ module _ (p : ℕ) (s : Procs) (cls : (x : ℕ) → s .class x < classes) (hi : 
 
 module _ (s : Procs) (k : Seated slice s) (hi : Highest s) where
   -- p, who stands nowhere, becomes a process of class c and is made ready
-  create-settles : (p c : ℕ) → places s p ≡ 0 → c < classes → makeReady p (rank p c s) ≡ settle (toRear c p c slice s)
+  pub create-settles : (p c : ℕ) → places s p ≡ 0 → c < classes → makeReady p (rank p c s) ≡ settle (toRear c p c slice s)
   unfolding join
   create-settles p c free hc =
       let rests : s .running ≢ p = λ e. omega (arith, runs-once s, ap (places s) e) in
@@ -137,7 +137,7 @@ module _ (s : Procs) (k : Seated slice s) (hi : Highest s) where
       (λ i. put-cases (λ (a : List ℕ). occurs w a ≡ 0) (s .queue) q l i (λ d. once) (λ d. other i d)) rests
       ∙ ap settle (rw (rear-from (s .class w) w (s .class w) slice s (put (s .queue) q l) without-w, ne-eqb (s .running) w rests, put-own (s .class) w) refl)
 
-  halt-settles : (p : ℕ) → halt p s ≡ settle (leave p 0 0 s)
+  pub halt-settles : (p : ℕ) → halt p s ≡ settle (leave p 0 0 s)
   unfolding halt remove leave settle
   halt-settles p = ⊎-elim
       (λ (e : s .running ≡ p). rw (eq-eqb (s .running) p e) (ap choose (sym (down-idle (left p 0 (rank p 0 (lines (λ q. without p (s .queue q)) (run 0 s)))) refl))))
@@ -147,7 +147,7 @@ module _ (s : Procs) (k : Seated slice s) (hi : Highest s) where
       (same? (s .running) p)
 
   -- the runner goes to the rear of queue q, its own class's or where it waits
-  wait-settles : (q : ℕ) → goTo q s ≡ settle (toRear q (s .running) (s .class (s .running)) slice s)
+  pub wait-settles : (q : ℕ) → goTo q s ≡ settle (toRear q (s .running) (s .class (s .running)) slice s)
   wait-settles q = ap (goTo q) (sym (rank-own (s .running) s)) ∙ goTo-settles q (s .class (s .running)) s (runner-away slice s k)
 
 -- ---- each accepted call
