@@ -148,6 +148,20 @@ unfolding total
 total-times k zero f g h = omega arith
 total-times k (suc n) f g h = omega (arith, h n, total-times k n f g h)
 
+-- a sum of which one part at most is above 0, and none above 1
+pub total-once : (k : ℕ) (g : ℕ → ℕ) → ((i : ℕ) → g i ≤ 1) → ((i j : ℕ) → 1 ≤ g i → 1 ≤ g j → i ≡ j) → total k g ≤ 1
+unfolding total
+total-once zero g a b = omega arith
+total-once (suc k) g a b = ⊎-elim
+    (λ o. omega (arith, a k, total-zero k g (λ i h. ⊎-elim (λ z. absurd (omega (arith, b i k z o))) (λ z. omega arith) (le? 1 (g i)))))
+    (λ z. omega (arith, total-once k g a b))
+    (le? 1 (g k))
+
+pub total-ones : (k : ℕ) (g : ℕ → ℕ) → ((i : ℕ) → g i ≤ 1) → total k g ≤ k
+unfolding total
+total-ones zero g a = omega arith
+total-ones (suc k) g a = omega (arith, a k, total-ones k g a)
+
 pub total-at : (n : ℕ) (f : ℕ → ℕ) (i : ℕ) → i < n → f i ≤ total n f
 unfolding total
 total-at zero f i h = omega arith
