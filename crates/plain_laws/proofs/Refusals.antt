@@ -13,7 +13,7 @@ use Rattle.plain_laws.specs.History.{Passed, First, codes, inOrder, orde
 use Rattle.plain_laws.proofs.Calls.{accepted}
 
 -- the first refusal of a list that holds is the one that is given
-first-given : (xs : List Refusal) (r : Refusal) (ys : List Refusal) (s : State) (o : Outcome) → Passed xs → r .holds ≡ true → judge (xs ++ r ∷ ys) s o ≡ refused r s
+pub first-given : (xs : List Refusal) (r : Refusal) (ys : List Refusal) (s : State) (o : Outcome) → Passed xs → r .holds ≡ true → judge (xs ++ r ∷ ys) s o ≡ refused r s
 first-given [] r ys s o p h = rw h
 first-given (x ∷ xs) r ys s o p h = rw (p .0) (first-given xs r ys s o (p .1) h)
 
