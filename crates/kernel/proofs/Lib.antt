@@ -1,0 +1,13 @@
+pub mod Buffers
+pub mod Stored
+pub mod Sequences
+pub mod Whole
+pub mod Unused
+pub mod Judging
+pub mod One
+pub mod Theorems
+pub mod Changes
+pub mod Reading
+pub mod Waiting
+pub mod Decided
+pub mod Fresh

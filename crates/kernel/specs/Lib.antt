@@ -1,0 +1,5 @@
+pub mod Holds
+pub mod Promise
+pub mod Theorems
+pub mod Waits
+pub mod Judged

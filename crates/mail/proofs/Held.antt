@@ -1,0 +1,85 @@
+-- In how many places a buffer is held, as messages are queued, handed over, taken and let go.
+-- Assumes nothing.
+use Prim.Native.Nat.{ℕ, _+_, _≤_, _<_}
+use mathlib.Core.Path.{_≡_, refl, sym, ap, _∙_}
+use mathlib.Core.Logic.{⊎-elim}
+use mathlib.Core.List.{List, [], _∷_, _++_, append-assoc}
+use mathlib.Core.Option.{Option, none, some}
+use native.Mathlib.Omega.{arith}
+use Rattle.lists.specs.Lists.{put, occurs}
+use Rattle.lists.proofs.Laws.{le?, put-same, put-other, occurs-append, total-zero, total-at, total-change}
+use Rattle.plain.specs.Sizes.{processes, mailboxes}
+use Rattle.plain.specs.State.{Message, lies, buffersOf, inHand, held}
+
+pub buffers-append : (l r : List Message) → buffersOf (l ++ r) ≡ buffersOf l ++ buffersOf r
+buffers-append [] r = refl
+buffers-append (x ∷ l) r = ap (λ (a : List ℕ). lies x ++ a) (buffers-append l r) ∙ sym (append-assoc (lies x) (buffersOf l) (buffersOf r))
+
+pub held-nowhere : (b : ℕ) → held (λ m. []) (λ p. none) b ≡ 0
+unfolding held
+held-nowhere b = omega (arith, total-zero mailboxes (λ m. 0) (λ m h. refl), total-zero processes (λ p. 0) (λ p h. refl))
+
+held-box : (box : ℕ → List Message) (hand : ℕ → Option Message) (m : ℕ) (l : List Message) (b : ℕ) → m < mailboxes
+    → held (put box m l) hand b + occurs b (buffersOf (box m)) ≡ held box hand b + occurs b (buffersOf l)
+unfolding held
+held-box box hand m l b h =
+    omega (
+      arith,
+      total-change mailboxes (λ i. occurs b (buffersOf (box i))) (λ i. occurs b (buffersOf (put box m l i))) m h
+          (λ j d. ap (λ (a : List Message). occurs b (buffersOf a)) (put-other box m l j d)),
+      ap (λ (a : List Message). occurs b (buffersOf a)) (put-same box m l),
+    )
+
+pub held-hand : (box : ℕ → List Message) (hand : ℕ → Option Message) (p : ℕ) (x : Option Message) (b : ℕ) → p < processes
+    → held box (put hand p x) b + occurs b (inHand (hand p)) ≡ held box hand b + occurs b (inHand x)
+unfolding held
+held-hand box hand p x b h =
+    omega (
+      arith,
+      total-change processes (λ i. occurs b (inHand (hand i))) (λ i. occurs b (inHand (put hand p x i))) p h
+          (λ j d. ap (λ (a : Option Message). occurs b (inHand a)) (put-other hand p x j d)),
+      ap (λ (a : Option Message). occurs b (inHand a)) (put-same hand p x),
+    )
+
+module _ (box : ℕ → List Message) (hand : ℕ → Option Message) (b : ℕ) where
+  -- a message goes last into mailbox m
+  pub held-queued : (m : ℕ) (x : Message) → m < mailboxes → held (put box m (box m ++ (x ∷ []))) hand b ≡ held box hand b + occurs b (lies x)
+  held-queued m x h =
+      omega (
+        arith,
+        held-box box hand m (box m ++ (x ∷ [])) b h,
+        ap (occurs b) (buffers-append (box m) (x ∷ [])),
+        occurs-append b (buffersOf (box m)) (lies x),
+      )
+
+  -- a message goes into the empty hand of p
+  pub held-given : (p : ℕ) (x : Message) → p < processes → hand p ≡ none → held box (put hand p (some x)) b ≡ held box hand b + occurs b (lies x)
+  held-given p x h e = omega (arith, held-hand box hand p (some x) b h, ap (λ (a : Option Message). occurs b (inHand a)) e)
+
+  -- the first message of mailbox m goes into the empty hand of p
+  pub held-taken : (m p : ℕ) (x : Message) (l : List Message) → m < mailboxes → p < processes → box m ≡ x ∷ l → hand p ≡ none
+      → held (put box m l) (put hand p (some x)) b ≡ held box hand b
+  held-taken m p x l hm hp e empty =
+      omega (
+        arith,
+        held-hand (put box m l) hand p (some x) b hp,
+        held-box box hand m l b hm,
+        ap (λ (a : Option Message). occurs b (inHand a)) empty,
+        ap (λ (a : List Message). occurs b (buffersOf a)) e,
+        occurs-append b (lies x) (buffersOf l),
+      )
+
+  -- what is held nowhere is in no mailbox and in no hand
+  pub not-queued : ((m : ℕ) → mailboxes ≤ m → buffersOf (box m) ≡ []) → held box hand b ≡ 0 → (m : ℕ) → occurs b (buffersOf (box m)) ≡ 0
+  unfolding held
+  not-queued beyond z m = ⊎-elim
+      (λ h. ap (occurs b) (beyond m h))
+      (λ h. omega (arith, total-at mailboxes (λ i. occurs b (buffersOf (box i))) m h))
+      (le? mailboxes m)
+
+  pub not-in-hand : ((p : ℕ) → processes ≤ p → hand p ≡ none) → held box hand b ≡ 0 → (p : ℕ) → occurs b (inHand (hand p)) ≡ 0
+  unfolding held
+  not-in-hand beyond z p = ⊎-elim
+      (λ h. ap (λ (a : Option Message). occurs b (inHand a)) (beyond p h))
+      (λ h. omega (arith, total-at processes (λ i. occurs b (inHand (hand i))) p h))
+      (le? processes p)

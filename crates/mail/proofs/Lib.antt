@@ -1,0 +1,6 @@
+pub mod Arrays
+pub mod Held
+pub mod Parts
+pub mod Looks
+pub mod Moves
+pub mod One

@@ -1,0 +1,108 @@
+-- What the struct becomes as messages are queued, taken and let go, and what is read off it, in its numbers.
+-- Total: a mailbox, process or buffer number past the last leaves what it would change as it is. Assumes nothing.
+use Prim.Native.Nat.{ℕ}
+use mathlib.Core.Bool.{Bool, true, false}
+use lib.ListN.{getD, set, replicate}
+use Rattle.lists.specs.Lists.{if_then_else_, put, lowest}
+use Rattle.bits.specs.Word.{width, word, bits}
+use Rattle.rings.specs.Ring.{Tables}
+use Rattle.rings.specs.Moves.{fresh, joinRear, leave, first, isEmpty, holdsAtLeast}
+use Rattle.plain.specs.Sizes.{processes, mailboxes, capacity, buffers}
+use Rattle.mail.specs.Carries.{Numbers}
+
+-- ---- what is read
+
+-- 32 where no buffer is free
+unfoldable pub lowestFree : Numbers → ℕ
+lowestFree k = lowest 0 width (bits (k .free))
+
+unfoldable pub isFullBox : Numbers → ℕ → Bool
+isFullBox k m = holdsAtLeast buffers mailboxes (k .tables) m capacity
+
+unfoldable pub isEmptyBox : Numbers → ℕ → Bool
+isEmptyBox k m = isEmpty buffers mailboxes (k .tables) m
+
+unfoldable pub hasMessage : Numbers → ℕ → Bool
+hasMessage k p = bits (k .full) p
+
+-- the buffer in a hand
+unfoldable pub handAt : Numbers → ℕ → ℕ
+handAt k p = getD (k .hand) p 0
+
+-- the length of the message in buffer b
+abbrev pub lengthAt : Numbers → ℕ → ℕ
+lengthAt k b = getD (k .length) b 0
+
+-- 0 where the hand is empty
+unfoldable pub lengthInHand : Numbers → ℕ → ℕ
+lengthInHand k p = if hasMessage k p then lengthAt k (handAt k p) else 0
+
+-- 0 where the mailbox is empty
+unfoldable pub firstLength : Numbers → ℕ → ℕ
+firstLength k m = lengthAt k (first buffers mailboxes (k .tables) m)
+
+-- ---- what is changed
+
+-- nothing is queued, nothing is in a hand, every buffer is free
+unfoldable pub freshMail : Numbers
+freshMail = record {
+  tables = fresh buffers mailboxes;
+  hand = replicate processes 0;
+  full = word width (λ p. false);
+  length = replicate buffers 0;
+  free = word width (λ b. true);
+}
+
+-- buffer b has a message of n bytes, or is free
+abbrev stocked : Numbers → ℕ → ℕ → Bool → Numbers
+stocked k b n free = record {
+  tables = k .tables;
+  hand = k .hand;
+  full = k .full;
+  length = set (k .length) b n;
+  free = word width (put (bits (k .free)) b free);
+}
+
+unfoldable pub filled : Numbers → ℕ → ℕ → Numbers
+filled k b n = stocked k b n false
+
+unfoldable pub freed : Numbers → ℕ → Numbers
+freed k b = stocked k b 0 true
+
+-- process p has buffer b in hand, or has an empty hand
+abbrev holding : Numbers → ℕ → ℕ → Bool → Numbers
+holding k p b full = record {
+  tables = k .tables;
+  hand = set (k .hand) p b;
+  full = word width (put (bits (k .full)) p full);
+  length = k .length;
+  free = k .free;
+}
+
+unfoldable pub given : Numbers → ℕ → ℕ → Numbers
+given k p b = holding k p b true
+
+unfoldable pub emptied : Numbers → ℕ → Numbers
+emptied k p = holding k p 0 false
+
+-- the mailboxes' links are t
+abbrev pub relinked : Numbers → Tables → Numbers
+relinked k t = record { tables = t; hand = k .hand; full = k .full; length = k .length; free = k .free }
+
+-- buffer b takes a message of n bytes and is queued last in mailbox m
+unfoldable pub queuedLast : Numbers → ℕ → ℕ → ℕ → Numbers
+queuedLast k m b n = relinked (filled k b n) (joinRear buffers mailboxes (k .tables) m b)
+
+-- buffer b takes a message of n bytes and goes into the hand of process p
+unfoldable pub handedOver : Numbers → ℕ → ℕ → ℕ → Numbers
+handedOver k p b n = given (filled k b n) p b
+
+-- the first message of mailbox m goes into the hand of process p
+unfoldable pub taken : Numbers → ℕ → ℕ → Numbers
+taken k m p =
+    let b : ℕ = first buffers mailboxes (k .tables) m in
+    relinked (given k p b) (leave buffers mailboxes (k .tables) b)
+
+-- the buffer in the hand of process p becomes free; nothing changes where the hand is empty
+unfoldable pub letGo : Numbers → ℕ → Numbers
+letGo k p = if hasMessage k p then emptied (freed k (handAt k p)) p else k

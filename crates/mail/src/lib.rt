@@ -1,0 +1,237 @@
+// What is held: the mailboxes' queues of buffers, each process's hand, the length of each buffer's message, and which buffers are free.
+// Every function answers for every number: past the last process there is no hand, past the last mailbox no queue, past the last buffer no message.
+ghost use mathlib.Core.Path.{_≡_};
+ghost use mathlib.Core.List.{map};
+ghost use lib.ListN.{getD, set};
+ghost use Rattle.boxes.specs.Box.{num};
+ghost use Rattle.mail.specs.Carries.{numbers};
+ghost use Rattle.mail.specs.Moves.{lowestFree, isFullBox, isEmptyBox, hasMessage, handAt, lengthInHand, firstLength, freshMail, filled, freed, given, emptied, queuedLast, handedOver, taken, letGo};
+use boxes::Bid;
+use boxes::Boxes;
+
+const PROCESSES: u32 = 32;
+
+const BUFFERS: u8 = 32;
+
+// Messages that a mailbox holds at most.
+const CAPACITY: u32 = 8;
+
+// A bit for each buffer.
+const ALL: u32 = 4294967295;
+
+pub struct Mail {
+    pub boxes: Boxes,
+    pub hand: [Bid; 32],
+    pub full: u32,
+    pub length: [u16; 32],
+    pub free: u32,
+}
+
+// The buffer in the hand of p, or 0 past the last hand.
+fn hand_of(hands: [Bid; 32], p: u32) -> Bid
+    ensures { λ r. ⌜ r .0 ≡ getD (map num hands) p 0 ⌝ }
+{
+    if p < PROCESSES {
+        let i = p as usize;
+        return hands[i];
+    }
+    Bid(0)
+}
+
+// The hands with b in that of p, or as they are past the last hand.
+fn with_hand(mut hands: [Bid; 32], p: u32, b: Bid) -> [Bid; 32]
+    ensures { λ r. ⌜ map num r ≡ set (map num hands) p (b .0) ⌝ }
+{
+    if p < PROCESSES {
+        let i = p as usize;
+        hands[i] = b;
+        return hands;
+    }
+    hands
+}
+
+// The length of the message in b, or 0 past the last buffer.
+fn length_of(lengths: [u16; 32], b: Bid) -> u32
+    ensures { λ r. ⌜ r ≡ getD lengths (b .0) 0 ⌝ }
+{
+    if b.0 < BUFFERS {
+        let i = b.0 as usize;
+        return lengths[i] as u32;
+    }
+    0
+}
+
+// The lengths with n at b, or as they are past the last buffer.
+fn with_length(mut lengths: [u16; 32], b: Bid, n: u16) -> [u16; 32]
+    ensures { λ r. ⌜ r ≡ set lengths (b .0) n ⌝ }
+{
+    if b.0 < BUFFERS {
+        let i = b.0 as usize;
+        lengths[i] = n;
+        return lengths;
+    }
+    lengths
+}
+
+impl Mail {
+    // Nothing is queued, nothing is in a hand, every buffer is free.
+    pub fn fresh() -> Mail
+        ensures { λ r. ⌜ numbers r ≡ freshMail ⌝ }
+    {
+        let boxes = Boxes::fresh();
+        let hand = [Bid(0); 32];
+        let length = [0u16; 32];
+        Mail {
+            boxes,
+            hand,
+            full: 0,
+            length,
+            free: ALL,
+        }
+    }
+
+    // The lowest free buffer, or 32 where none is free.
+    pub fn lowest_free(self) -> u32
+        ensures { λ r. ⌜ r ≡ lowestFree (numbers self) ⌝ }
+    {
+        bits::lowest_bit(self.free)
+    }
+
+    pub fn is_full_box(self, m: u32) -> bool
+        ensures { λ r. ⌜ r ≡ isFullBox (numbers self) m ⌝ }
+    {
+        let queues = self.boxes;
+        queues.holds_at_least(m, CAPACITY)
+    }
+
+    pub fn is_empty_box(self, m: u32) -> bool
+        ensures { λ r. ⌜ r ≡ isEmptyBox (numbers self) m ⌝ }
+    {
+        let queues = self.boxes;
+        queues.is_empty(m)
+    }
+
+    // Whether the hand of p is full.
+    pub fn has_message(self, p: u32) -> bool
+        ensures { λ r. ⌜ r ≡ hasMessage (numbers self) p ⌝ }
+    {
+        bits::has_bit(self.full, p)
+    }
+
+    // The buffer in the hand of p, or 0 where the hand is empty.
+    pub fn in_hand(self, p: u32) -> Bid
+        ensures { λ r. ⌜ r .0 ≡ handAt (numbers self) p ⌝ }
+    {
+        let hands = self.hand;
+        hand_of(hands, p)
+    }
+
+    // The length of the message in the hand of p, or 0 where the hand is empty.
+    pub fn length_in_hand(self, p: u32) -> u32
+        ensures { λ r. ⌜ r ≡ lengthInHand (numbers self) p ⌝ }
+    {
+        if !self.has_message(p) {
+            return 0;
+        }
+        let lengths = self.length;
+        let held = self.in_hand(p);
+        length_of(lengths, held)
+    }
+
+    // The length of the first message of mailbox m, or 0 where it is empty.
+    pub fn first_length(self, m: u32) -> u32
+        ensures { λ r. ⌜ r ≡ firstLength (numbers self) m ⌝ }
+    {
+        let queues = self.boxes;
+        let lengths = self.length;
+        let first = queues.first(m);
+        length_of(lengths, first)
+    }
+
+    // Buffer b takes a message of n bytes.
+    fn fill(mut self, b: Bid, n: u16) -> Mail
+        ensures { λ r. ⌜ numbers r ≡ filled (numbers self) (b .0) n ⌝ }
+    {
+        let old = self.length;
+        let lengths = with_length(old, b, n);
+        self.length = lengths;
+        self.free = bits::without_bit(self.free, b.0 as u32);
+        self
+    }
+
+    // Buffer b becomes free.
+    fn set_free(mut self, b: Bid) -> Mail
+        ensures { λ r. ⌜ numbers r ≡ freed (numbers self) (b .0) ⌝ }
+    {
+        let old = self.length;
+        let lengths = with_length(old, b, 0);
+        self.length = lengths;
+        self.free = bits::with_bit(self.free, b.0 as u32);
+        self
+    }
+
+    // Buffer b goes into the hand of p.
+    fn give(mut self, p: u32, b: Bid) -> Mail
+        ensures { λ r. ⌜ numbers r ≡ given (numbers self) p (b .0) ⌝ }
+    {
+        let old = self.hand;
+        let hands = with_hand(old, p, b);
+        self.hand = hands;
+        self.full = bits::with_bit(self.full, p);
+        self
+    }
+
+    // The hand of p becomes empty.
+    fn empty_hand(mut self, p: u32) -> Mail
+        ensures { λ r. ⌜ numbers r ≡ emptied (numbers self) p ⌝ }
+    {
+        let old = self.hand;
+        let hands = with_hand(old, p, Bid(0));
+        self.hand = hands;
+        self.full = bits::without_bit(self.full, p);
+        self
+    }
+
+    // Buffer b takes a message of n bytes and is queued last in mailbox m.
+    pub fn queue_last(self, m: u32, b: Bid, n: u16) -> Mail
+        ensures { λ r. ⌜ numbers r ≡ queuedLast (numbers self) m (b .0) n ⌝ }
+    {
+        let queues = self.boxes;
+        let joined = queues.join_rear(m, b);
+        let mut next = self.fill(b, n);
+        next.boxes = joined;
+        next
+    }
+
+    // Buffer b takes a message of n bytes and goes into the hand of p.
+    pub fn hand_over(self, p: u32, b: Bid, n: u16) -> Mail
+        ensures { λ r. ⌜ numbers r ≡ handedOver (numbers self) p (b .0) n ⌝ }
+    {
+        let next = self.fill(b, n);
+        next.give(p, b)
+    }
+
+    // The first message of mailbox m goes into the hand of p.
+    pub fn take(self, m: u32, p: u32) -> Mail
+        ensures { λ r. ⌜ numbers r ≡ taken (numbers self) m p ⌝ }
+    {
+        let queues = self.boxes;
+        let b = queues.first(m);
+        let left = queues.leave(b);
+        let mut next = self.give(p, b);
+        next.boxes = left;
+        next
+    }
+
+    // The buffer in the hand of p becomes free; nothing changes where the hand is empty.
+    pub fn let_go(self, p: u32) -> Mail
+        ensures { λ r. ⌜ numbers r ≡ letGo (numbers self) p ⌝ }
+    {
+        if !self.has_message(p) {
+            return self;
+        }
+        let b = self.in_hand(p);
+        let next = self.set_free(b);
+        next.empty_hand(p)
+    }
+}

@@ -1,0 +1,281 @@
+// Who runs: the process queues, each process's class and ticks left, and a bit for each class that has someone ready.
+// Every function answers for every struct and every number: a number that names no process has no entry and joins no queue.
+ghost use mathlib.Core.Path.{_≡_};
+ghost use lib.ListN.{getD, set};
+ghost use Rattle.queues.specs.Queue.{tablesOf};
+ghost use Rattle.procs.specs.Stands.{numbers};
+ghost use Rattle.procs.specs.Moves.{fresh, runs, ranked, timed, requeued, joined, fronted, gone, firstRuns, chosen, stoodDown, isAbove, preempted, readied, created, woken, wentTo, yielded, regraded, ticked, removed, halted};
+use queues::Pid;
+use queues::Queues;
+
+const PROCESSES: u8 = 32;
+
+const CLASSES: u32 = 5;
+
+const SLICE: u8 = 3;
+
+pub struct Procs {
+    pub running: Pid,
+    pub class: [u8; 32],
+    pub ticks: [u8; 32],
+    pub queues: Queues,
+    pub ready: u32,
+}
+
+// What a table, of classes or of ticks, has for p; 0 where p is no process.
+pub fn entry(t: [u8; 32], p: Pid) -> u8
+    ensures { λ r. ⌜ r ≡ getD t (p .0) 0 ⌝ }
+{
+    if p.0 >= PROCESSES {
+        return 0;
+    }
+    let i = p.0 as usize;
+    t[i]
+}
+
+// The table with v for p.
+fn with_entry(mut t: [u8; 32], p: Pid, v: u8) -> [u8; 32]
+    ensures { λ r. ⌜ r ≡ set t (p .0) v ⌝ }
+{
+    if p.0 < PROCESSES {
+        let i = p.0 as usize;
+        t[i] = v;
+    }
+    t
+}
+
+impl Procs {
+    // 0 runs, and the others are unused.
+    pub fn fresh() -> Procs
+        ensures { λ r. ⌜ numbers r ≡ fresh ⌝ }
+    {
+        let zeros = [0u8; 32];
+        let empty = Queues::fresh();
+        Procs {
+            running: Pid(0),
+            class: zeros,
+            ticks: zeros,
+            queues: empty,
+            ready: 0,
+        }
+    }
+
+    fn run(mut self, p: Pid) -> Procs
+        ensures { λ r. ⌜ numbers r ≡ runs (p .0) (numbers self) ⌝ }
+    {
+        self.running = p;
+        self
+    }
+
+    pub fn set_class(mut self, p: Pid, c: u8) -> Procs
+        ensures { λ r. ⌜ numbers r ≡ ranked (p .0) c (numbers self) ⌝ }
+    {
+        let t = self.class;
+        let u = with_entry(t, p, c);
+        self.class = u;
+        self
+    }
+
+    fn set_ticks(mut self, p: Pid, n: u8) -> Procs
+        ensures { λ r. ⌜ numbers r ≡ timed (p .0) n (numbers self) ⌝ }
+    {
+        let t = self.ticks;
+        let u = with_entry(t, p, n);
+        self.ticks = u;
+        self
+    }
+
+    // The queues become t, in which queue q has changed. If q is a class, its bit says whether anyone is ready there.
+    fn requeue(mut self, q: u32, t: Queues) -> Procs
+        ensures { λ r. ⌜ numbers r ≡ requeued q (tablesOf t) (numbers self) ⌝ }
+    {
+        let w = self.ready;
+        self.queues = t;
+        if q >= CLASSES {
+            return self;
+        }
+        if t.is_empty(q) {
+            self.ready = bits::without_bit(w, q);
+            return self;
+        }
+        self.ready = bits::with_bit(w, q);
+        self
+    }
+
+    fn join_rear(self, q: u32, p: Pid) -> Procs
+        ensures { λ r. ⌜ numbers r ≡ joined q (p .0) (numbers self) ⌝ }
+    {
+        let t = self.queues;
+        let u = t.join_rear(q, p);
+        self.requeue(q, u)
+    }
+
+    fn join_front(self, q: u32, p: Pid) -> Procs
+        ensures { λ r. ⌜ numbers r ≡ fronted q (p .0) (numbers self) ⌝ }
+    {
+        let t = self.queues;
+        let u = t.join_front(q, p);
+        self.requeue(q, u)
+    }
+
+    // p leaves queue q.
+    fn leave(self, q: u32, p: Pid) -> Procs
+        ensures { λ r. ⌜ numbers r ≡ gone q (p .0) (numbers self) ⌝ }
+    {
+        let t = self.queues;
+        let u = t.leave(p);
+        self.requeue(q, u)
+    }
+
+    // The first of queue q leaves it and runs.
+    fn run_first(self, q: u32) -> Procs
+        ensures { λ r. ⌜ numbers r ≡ firstRuns q (numbers self) ⌝ }
+    {
+        let t = self.queues;
+        let p = t.first(q);
+        self.leave(q, p).run(p)
+    }
+
+    // The first of the highest class with anyone ready runs, else 0.
+    pub fn choose(self) -> Procs
+        ensures { λ r. ⌜ numbers r ≡ chosen (numbers self) ⌝ }
+    {
+        let c = bits::highest_bit(self.ready);
+        if c < CLASSES {
+            return self.run_first(c);
+        }
+        self.run(Pid(0))
+    }
+
+    // A running process other than 0 goes to the front of its class with its ticks left.
+    fn stand_down(self) -> Procs
+        ensures { λ r. ⌜ numbers r ≡ stoodDown (numbers self) ⌝ }
+    {
+        let p = self.running;
+        if p.0 == 0 {
+            return self;
+        }
+        let class = self.class;
+        let c = entry(class, p);
+        self.join_front(c as u32, p).run(Pid(0))
+    }
+
+    // Whether p's class is above the running one's, or 0 runs.
+    fn is_above(self, p: Pid) -> bool
+        ensures { λ r. ⌜ r ≡ isAbove (p .0) (numbers self) ⌝ }
+    {
+        let r = self.running;
+        if r.0 == 0 {
+            return true;
+        }
+        let class = self.class;
+        let low = entry(class, r);
+        let high = entry(class, p);
+        low < high
+    }
+
+    // p runs, and who ran stands down.
+    fn preempt(self, p: Pid) -> Procs
+        ensures { λ r. ⌜ numbers r ≡ preempted (p .0) (numbers self) ⌝ }
+    {
+        self.stand_down().run(p)
+    }
+
+    // p, who stands nowhere, gets a full slice. It runs if its class is above the running one's or 0 runs, else it joins the rear of its class.
+    pub fn make_ready(self, p: Pid) -> Procs
+        ensures { λ r. ⌜ numbers r ≡ readied (p .0) (numbers self) ⌝ }
+    {
+        let full = self.set_ticks(p, SLICE);
+        if self.is_above(p) {
+            return full.preempt(p);
+        }
+        let class = self.class;
+        let c = entry(class, p);
+        full.join_rear(c as u32, p)
+    }
+
+    // p, who is unused, becomes a process of a class and is made ready.
+    pub fn create(self, p: Pid, class: u8) -> Procs
+        ensures { λ r. ⌜ numbers r ≡ created (p .0) class (numbers self) ⌝ }
+    {
+        self.set_class(p, class).make_ready(p)
+    }
+
+    // The first of queue q leaves it and is made ready; where nobody stands there, nothing changes.
+    pub fn wake(self, q: u32) -> Procs
+        ensures { λ r. ⌜ numbers r ≡ woken q (numbers self) ⌝ }
+    {
+        let t = self.queues;
+        let w = t.first(q);
+        if w.0 >= PROCESSES {
+            return self;
+        }
+        self.leave(q, w).make_ready(w)
+    }
+
+    // The running process joins the rear of queue q with a full slice, and one is chosen.
+    pub fn go_to(self, q: u32) -> Procs
+        ensures { λ r. ⌜ numbers r ≡ wentTo q (numbers self) ⌝ }
+    {
+        let p = self.running;
+        self.set_ticks(p, SLICE).join_rear(q, p).choose()
+    }
+
+    // The running process joins the rear of its class with a full slice, and one is chosen.
+    pub fn yield_now(self) -> Procs
+        ensures { λ r. ⌜ numbers r ≡ yielded (numbers self) ⌝ }
+    {
+        let class = self.class;
+        let c = entry(class, self.running);
+        self.go_to(c as u32)
+    }
+
+    // The running process changes to class c: if it is of another, it joins the rear there with a full slice, and one is chosen.
+    pub fn change_class(self, c: u8) -> Procs
+        ensures { λ r. ⌜ numbers r ≡ regraded c (numbers self) ⌝ }
+    {
+        let p = self.running;
+        let class = self.class;
+        if c == entry(class, p) {
+            return self;
+        }
+        self.set_class(p, c).go_to(c as u32)
+    }
+
+    // The running process, if it is not 0, has one tick less; with none left it yields.
+    pub fn tick(self) -> Procs
+        ensures { λ r. ⌜ numbers r ≡ ticked (numbers self) ⌝ }
+    {
+        let p = self.running;
+        if p.0 == 0 {
+            return self;
+        }
+        let ticks = self.ticks;
+        let n = entry(ticks, p);
+        if n > 1 {
+            return self.set_ticks(p, n - 1);
+        }
+        self.yield_now()
+    }
+
+    // p leaves its queue, and its block carries zeros.
+    fn remove(self, p: Pid) -> Procs
+        ensures { λ r. ⌜ numbers r ≡ removed (p .0) (numbers self) ⌝ }
+    {
+        let class = self.class;
+        let c = entry(class, p);
+        self.leave(c as u32, p).set_class(p, 0).set_ticks(p, 0)
+    }
+
+    // p leaves its place and becomes unused; one is chosen if it ran.
+    pub fn halt(self, p: Pid) -> Procs
+        ensures { λ r. ⌜ numbers r ≡ halted (p .0) (numbers self) ⌝ }
+    {
+        let rest = self.remove(p);
+        let r = self.running;
+        if r.0 == p.0 {
+            return rest.choose();
+        }
+        rest
+    }
+}

@@ -1,0 +1,4 @@
+pub mod Says
+pub mod Seats
+pub mod Classes
+pub mod Answers

@@ -1,0 +1,210 @@
+// Whether a struct holds the sound process part of a state: its queues, who runs, each process's block, and the bits of the ready classes
+// and of the unused processes. Nothing is assumed of what stands in the fields. In `at` a process has 0 if it stands in no queue, else the
+// number of its queue plus 1.
+ghost use mathlib.Core.Path.{_≡_};
+ghost use mathlib.Core.List.{map};
+ghost use Rattle.lists.specs.Lists.{put};
+ghost use Rattle.bits.specs.Word.{width, word, bits};
+ghost use Rattle.rings.specs.Walk.{Says};
+ghost use Rattle.plain.specs.Sizes.{classes};
+ghost use Rattle.queues.specs.Queue.{num, tablesOf};
+ghost use Rattle.procs.specs.Stands.{numbers};
+ghost use Rattle.seats.specs.Seats.{Answer};
+ghost use Rattle.seats.specs.Fits.{Found, Block, Vacant, Seat, AllSeats, readyIn, Topmost, Fits};
+use procs::Procs;
+use queues::Pid;
+use queues::Queues;
+use rings::Places;
+
+const PROCESSES: usize = 32;
+
+const CLASSES: u8 = 5;
+
+const SLICE: u8 = 3;
+
+const NODES: usize = 69;
+
+// The links as bytes.
+fn bytes_of(links: [Pid; NODES]) -> [u8; NODES]
+    ensures { λ r. ⌜ r ≡ map num links ⌝ }
+{
+    let mut bytes = [0u8; NODES];
+    let mut i = 0;
+    while i < NODES {
+        let p = links[i];
+        bytes[i] = p.0;
+        i += 1;
+    }
+    bytes
+}
+
+// Whether the links are rings, and in which queue each process then stands.
+fn places_of(queues: Queues) -> Places
+    ensures { λ r. ⌜ Found (tablesOf queues) (r .ok) (r .at) ⌝ }
+{
+    let next = queues.next;
+    let prev = queues.prev;
+    let on = bytes_of(next);
+    let back = bytes_of(prev);
+    rings::standing(&on, &back, PROCESSES)
+}
+
+// Whether a used process, which runs or stands in a queue, may have this class and these ticks.
+fn block_fits(at: u8, class: u8, ticks: u8) -> bool
+    ensures { λ r. ⌜ Says r (Block at class ticks) ⌝ }
+{
+    if CLASSES <= class {
+        return false;
+    }
+    if ticks < 1 {
+        return false;
+    }
+    if SLICE < ticks {
+        return false;
+    }
+    if at == 0 {
+        return true;
+    }
+    if at <= CLASSES {
+        return at == class + 1;
+    }
+    ticks == SLICE
+}
+
+// Whether a process neither runs nor stands in a queue, and its block carries zeros.
+fn is_vacant(at: u8, runs: bool, class: u8, ticks: u8) -> bool
+    ensures { λ r. ⌜ Says r (Vacant at runs class ticks) ⌝ }
+{
+    if at != 0 {
+        return false;
+    }
+    if runs {
+        return false;
+    }
+    if class != 0 {
+        return false;
+    }
+    ticks == 0
+}
+
+// Whether a process is in exactly one place, and its block is as that place asks.
+fn seat_fits(at: u8, runs: bool, class: u8, ticks: u8, unused: bool) -> bool
+    ensures { λ r. ⌜ Says r (Seat at runs class ticks unused) ⌝ }
+{
+    if unused {
+        return is_vacant(at, runs, class, ticks);
+    }
+    if runs != (at == 0) {
+        return false;
+    }
+    block_fits(at, class, ticks)
+}
+
+// Whether every process has its seat.
+fn seats_fit(
+    running: usize,
+    at: [u8; PROCESSES],
+    class: [u8; PROCESSES],
+    ticks: [u8; PROCESSES],
+    unused: u32,
+) -> bool
+    ensures { λ r. ⌜ Says r (AllSeats running at class ticks unused) ⌝ }
+{
+    if bits::has_bit(unused, 0) {
+        return false;
+    }
+    if !is_vacant(at[0], false, class[0], ticks[0]) {
+        return false;
+    }
+    let mut p = 1;
+    while p < PROCESSES {
+        let bit = bits::has_bit(unused, p as u32);
+        if !seat_fits(at[p], running == p, class[p], ticks[p], bit) {
+            return false;
+        }
+        p += 1;
+    }
+    true
+}
+
+// w with bit i as `on` says.
+fn bit_as(w: u32, i: u32, on: bool) -> u32
+    ensures { λ r. ⌜ r ≡ word width (put (bits w) i on) ⌝ }
+{
+    if on {
+        bits::with_bit(w, i)
+    } else {
+        bits::without_bit(w, i)
+    }
+}
+
+// A bit for each class that has someone ready: the node after the head of its queue is a process.
+fn ready_word(next: [Pid; NODES]) -> u32
+    ensures { λ r. ⌜ r ≡ word width (readyIn classes (map num next)) ⌝ }
+{
+    let mut w = 0u32;
+    let mut c = 0u8;
+    while c < CLASSES {
+        let head = PROCESSES + c as usize;
+        let first = next[head];
+        w = bit_as(w, c as u32, (first.0 as usize) < PROCESSES);
+        c += 1;
+    }
+    w
+}
+
+// Whether no class above the runner's has someone ready, and none at all where 0 runs.
+fn is_topmost(running: usize, class: u8, ready: u32) -> bool
+    ensures { λ r. ⌜ Says r (Topmost running class ready) ⌝ }
+{
+    if ready == 0 {
+        return true;
+    }
+    if running == 0 {
+        return false;
+    }
+    bits::highest_bit(ready) <= class as u32
+}
+
+// Whether all but the links is sound, where each process stands as `at` says.
+fn procs_fit(k: Procs, unused: u32, at: [u8; PROCESSES]) -> bool
+    ensures { λ r. ⌜ Says r (Fits (numbers k) unused at) ⌝ }
+{
+    let running = k.running.0 as usize;
+    if PROCESSES <= running {
+        return false;
+    }
+    let class = k.class;
+    let ticks = k.ticks;
+    if !seats_fit(running, at, class, ticks, unused) {
+        return false;
+    }
+    let queues = k.queues;
+    let next = queues.next;
+    let ready = k.ready;
+    if ready != ready_word(next) {
+        return false;
+    }
+    is_topmost(running, class[running], ready)
+}
+
+// Whether k and the bits of the unused hold the sound process part of a state, and in which queue each process then stands.
+pub fn seated(k: Procs, unused: u32) -> Places
+    ensures { λ r. ⌜ Answer (numbers k) unused (r .ok) (r .at) ⌝ }
+{
+    let zeros = [0u8; PROCESSES];
+    let none = Places {
+        ok: false,
+        at: zeros,
+    };
+    let queues = k.queues;
+    let found = places_of(queues);
+    if !found.ok {
+        return none;
+    }
+    let at = found.at;
+    if !procs_fit(k, unused, at) {
+        return none;
+    }
+    Places { ok: true, at }
+}

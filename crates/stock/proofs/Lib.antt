@@ -1,0 +1,5 @@
+pub mod Hands
+pub mod Places
+pub mod Refused
+pub mod Accepted
+pub mod Answers

@@ -1,0 +1,158 @@
+// Whether the mail of a state is sound by itself: every buffer is queued once, in one hand, or free.
+// Nothing is assumed of what stands in the fields.
+use bits::has_bit;
+use boxes::Bid;
+use boxes::Boxes;
+use mail::Mail;
+use rings::Places;
+ghost use mathlib.Core.Path.{_≡_};
+ghost use mathlib.Core.List.{map};
+ghost use Rattle.rings.specs.Walk.{Says};
+ghost use Rattle.boxes.specs.Box.{num, tablesOf};
+ghost use Rattle.mail.specs.Carries.{numbers};
+ghost use Rattle.stock.specs.Stock.{Answer};
+ghost use Rattle.stock.specs.Tests.{AllBuffers, BufferFits, Few, Grasped, Handed, Queued};
+
+const PROCESSES: usize = 32;
+
+const MAILBOXES: u32 = 16;
+
+const CAPACITY: u32 = 8;
+
+const BUFFERS: usize = 32;
+
+const NODES: usize = 48;
+
+const LONGEST: u16 = 512;
+
+// The place of a buffer in a hand. Elsewhere it is 0 for nowhere, m + 1 for mailbox m.
+const IN_HAND: u8 = 17;
+
+// The numbers in a table of links.
+fn bytes(links: [Bid; NODES]) -> [u8; NODES]
+    ensures { λ r. ⌜ r ≡ map num links ⌝ }
+{
+    let mut t = [0u8; NODES];
+    let mut i = 0;
+    while i < NODES {
+        let b = links[i];
+        t[i] = b.0;
+        i += 1;
+    }
+    t
+}
+
+// Whether the tables hold rings, and the place of each buffer that is queued.
+fn queued(boxes: Boxes) -> Places
+    ensures { λ r. ⌜ Queued (tablesOf boxes) (r .ok) (r .at) ⌝ }
+{
+    let n = boxes.next;
+    let p = boxes.prev;
+    let next = bytes(n);
+    let prev = bytes(p);
+    rings::standing(&next, &prev, BUFFERS)
+}
+
+// Whether no mailbox holds more than its capacity.
+fn few(boxes: Boxes) -> bool
+    ensures { λ r. ⌜ Says r (Few (tablesOf boxes)) ⌝ }
+{
+    let mut m = 0;
+    while m < MAILBOXES {
+        if boxes.holds_at_least(m, CAPACITY + 1) {
+            return false;
+        }
+        m += 1;
+    }
+    true
+}
+
+// A full hand gets its buffer b, which is at no other place; an empty one has 0.
+fn grasp(at: [u8; BUFFERS], full: bool, b: Bid) -> Places
+    ensures { λ r. ⌜ Grasped at full (b .0) (r .ok) (r .at) ⌝ }
+{
+    if !full {
+        return Places { ok: b.0 == 0, at };
+    }
+    let i = b.0 as usize;
+    if BUFFERS <= i {
+        return Places { ok: false, at };
+    }
+    if at[i] != 0 {
+        return Places { ok: false, at };
+    }
+    let mut s = at;
+    s[i] = IN_HAND;
+    Places { ok: true, at: s }
+}
+
+// Each hand in turn gets its buffer; at first only the queued ones have a place.
+fn handed(at: [u8; BUFFERS], hand: [Bid; PROCESSES], full: u32) -> Places
+    ensures { λ r. ⌜ Handed at (map num hand) full (r .ok) (r .at) ⌝ }
+{
+    let mut s = at;
+    let mut p = 0;
+    while p < PROCESSES {
+        let b = hand[p];
+        let g = grasp(s, has_bit(full, p as u32), b);
+        let t = g.at;
+        if !g.ok {
+            return Places { ok: false, at: t };
+        }
+        s = t;
+        p += 1;
+    }
+    Places { ok: true, at: s }
+}
+
+// Whether a buffer at this place has a length and a bit that it may have there.
+fn buffer_fits(place: u8, length: u16, free: bool) -> bool
+    ensures { λ r. ⌜ Says r (BufferFits place length free) ⌝ }
+{
+    if place == 0 {
+        if length != 0 {
+            return false;
+        }
+        return free;
+    }
+    if LONGEST < length {
+        return false;
+    }
+    !free
+}
+
+fn buffers_fit(at: [u8; BUFFERS], length: [u16; BUFFERS], free: u32) -> bool
+    ensures { λ r. ⌜ Says r (AllBuffers at length free) ⌝ }
+{
+    let mut b = 0;
+    while b < BUFFERS {
+        if !buffer_fits(at[b], length[b], has_bit(free, b as u32)) {
+            return false;
+        }
+        b += 1;
+    }
+    true
+}
+
+// Whether k holds sound mail.
+pub fn stocked(k: Mail) -> bool
+    ensures { λ r. ⌜ Answer (numbers k) r ⌝ }
+{
+    let boxes = k.boxes;
+    let q = queued(boxes);
+    if !q.ok {
+        return false;
+    }
+    if !few(boxes) {
+        return false;
+    }
+    let in_boxes = q.at;
+    let hand = k.hand;
+    let h = handed(in_boxes, hand, k.full);
+    if !h.ok {
+        return false;
+    }
+    let at = h.at;
+    let length = k.length;
+    buffers_fit(at, length, k.free)
+}
