@@ -14,6 +14,8 @@ use Rattle.plain_laws.proofs.Refusals.{unchanged}
 use Rattle.plain_laws.proofs.Sound.{fresh-sound, after-sound}
 use Rattle.plain_laws.proofs.Theorems.{fairness}
 use Rattle.plain_laws.specs.History.{isDone, isRefusal}
+use Rattle.rings.specs.Walk.{Says}
+use Rattle.kernel.specs.Holds.{IsSound}
 use Rattle.kernel.specs.Promise.{Gives, Call, sound, unsound, withStore, storeAfter, roomAfter}
 use Rattle.kernel.specs.Theorems.{OneAnswer, Sequences, refuses, RefusedChangesNothing, FairRuns}
 use Rattle.kernel.specs.declared.Answer.{Answer}
@@ -46,9 +48,17 @@ one-area later area a b k r r′ (sound i h) p = h (i .0) (i .1) (i .2) .1 ∙ s
 one-area later area a b k r r′ (unsound n e x s) (sound i h) = absurd (n i)
 one-area later area a b k r r′ (unsound n e x s) (unsound n′ e′ x′ s′) = s ∙ sym s′
 
+one-decision : (P : Type 0) (b b′ : Bool) → Says b P → Says b′ P → b ≡ b′
+one-decision P true true p q = refl
+one-decision P true false p q = absurd (q p)
+one-decision P false true p q = absurd (p q)
+one-decision P false false p q = refl
+
 pub one-answer : OneAnswer
 one-answer = record {
   result = one-result;
+  decision = λ k b b′ p q. one-decision (IsSound k) b b′ p q;
+  beginning = λ k k′ H H′. one-kernel H H′;
   store = λ store m b later later′ k r r′ p q. one-area (λ s. storeAfter store (withStore store (Plain.send m b) s) s b) store later later′ k r r′ p q;
   room = λ store room later later′ k r r′ p q. one-area (λ s. roomAfter store room (withStore store (Plain.read (length room)) s) s) room later later′ k r r′ p q;
 }

@@ -12,16 +12,19 @@ use Rattle.plain.specs.Sizes.{storeSize}
 use Rattle.plain.specs.State.{State, fresh}
 use Rattle.plain_laws.specs.History.{Ready}
 use Rattle.plain_laws.specs.Theorems.{Fair}
-use Rattle.kernel.specs.Holds.{Holds}
+use Rattle.rings.specs.Walk.{Says}
+use Rattle.kernel.specs.Holds.{Holds, IsSound}
 use Rattle.kernel.specs.Promise.{told, Call, Plainly, Sends, Reads, Stored}
 use Rattle.kernel.specs.declared.Answer.{Answer}
 use Rattle.kernel.specs.declared.Done.{Done}
 use Rattle.kernel.specs.declared.Kernel.{Kernel}
 
--- 1. No second answer: two results that meet a call's promise are equal, and so is what the lent areas then hold.
+-- 1. No second answer: two results that meet a call's promise are equal, and so is what the lent areas then hold; the same of the decision and of a fresh state.
 pub record OneAnswer : Type 1 where
   pub result : (f : State → Plain.Outcome) (Later : State → Type 0) (Same : Type 0) (k : Kernel) (r r′ : Done) → Call f Later Same k r → Call f Later Same k r′ → r ≡ r′
   pub store : (store : List ℕ) (m : ℕ) (b later later′ : List ℕ) (k : Kernel) (r r′ : Done) → Sends store m b later k r → Sends store m b later′ k r′ → later ≡ later′
+  pub decision : (k : Kernel) (b b′ : Bool) → Says b (IsSound k) → Says b′ (IsSound k) → b ≡ b′
+  pub beginning : (k k′ : Kernel) → Holds k fresh → Holds k′ fresh → k ≡ k′
   pub room : (store room later later′ : List ℕ) (k : Kernel) (r r′ : Done) → Reads store room later k r → Reads store room later′ k r′ → later ≡ later′
 
 -- 2. Demand 2: calls in sequence, each meeting its promise over one state and one store, answer as the plain kernel does.

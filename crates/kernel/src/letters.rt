@@ -12,7 +12,7 @@ ghost use Rattle.kernel.specs.Judged.{Judged, Becomes, verdict};
 use crate::Done;
 use crate::Kernel;
 use crate::Verdict;
-use crate::answers::says;
+use crate::says;
 use boxes::Bid;
 use mail::Mail;
 

@@ -1,10 +1,13 @@
 // The kernel: its state by value, the decision whether a state is sound, and every call as a method that hands back the next state beside the answer.
-ghost use Rattle.plain.specs.State.{fresh};
+ghost use mathlib.Core.Path.{_≡_};
+ghost use mathlib.Core.List.{List, [], _∷_};
+ghost use Rattle.plain.specs.State.{State, fresh};
+ghost use Rattle.plain.specs.Calls as Plain;
 ghost use Rattle.kernel.specs.Holds.{Holds};
+ghost use Rattle.kernel.specs.Judged.{Judged, answered, refusedWith, verdict};
 use mail::Mail;
 use procs::Procs;
 
-mod answers;
 mod letters;
 mod processes;
 mod semaphores;
@@ -32,6 +35,19 @@ pub struct Done {
     pub answer: Answer,
 }
 
+// What judging a call finds: a refusal, or code 0.
+pub struct Verdict {
+    pub code: u32,
+    pub number: u32,
+}
+
+// The verdict of a code that comes with no number.
+fn says(code: u32) -> Verdict
+    ensures { λ r. ⌜ r ≡ verdict code 0 ⌝ }
+{
+    Verdict { code, number: 0 }
+}
+
 impl Kernel {
     // Process 0 runs, every other number is unused, and nothing lies or is counted anywhere.
     pub fn fresh() -> Kernel
@@ -47,10 +63,63 @@ impl Kernel {
             count,
         }
     }
-}
 
-// What judging a call finds: a refusal, or code 0.
-pub struct Verdict {
-    pub code: u32,
-    pub number: u32,
+    fn runner(self) -> u32
+        ensures { λ r. ⌜ r ≡ self .procs .running .0 ⌝ }
+    {
+        let k = self.procs;
+        let p = k.running;
+        p.0 as u32
+    }
+
+    // The state with a code, a number and the process that runs.
+    fn answer(self, code: u32, number: u32) -> Done
+        ensures { λ r. ⌜ r ≡ answered self code number ⌝ }
+    {
+        let running = self.runner();
+        let state = self;
+        let answer = Answer {
+            code,
+            number,
+            running,
+        };
+        Done { state, answer }
+    }
+
+    // The state with what refused the call; code 14 comes with running 0.
+    fn refuse(self, v: Verdict) -> Done
+        ensures { λ r. ⌜ r ≡ refusedWith self v ⌝ }
+    {
+        let mut running = self.runner();
+        if v.code == 14 {
+            running = 0;
+        }
+        let state = self;
+        let answer = Answer {
+            code: v.code,
+            number: v.number,
+            running,
+        };
+        Done { state, answer }
+    }
+
+    fn with_procs(mut self, next: Procs) -> Kernel
+        ensures { λ r. ⌜ r ≡ record { procs = next; unused = self .unused; mail = self .mail; count = self .count } ⌝ }
+    {
+        self.procs = next;
+        self
+    }
+
+    // Calls that are refused only while 0 runs.
+    fn judge_idle(self) -> Verdict
+        ensures { λ r. ⌜ Judged (λ s. Plain.idle s ∷ []) self r ⌝ }
+    {
+        if !self.is_sound() {
+            return says(14);
+        }
+        if self.runner() == 0 {
+            return says(5);
+        }
+        says(0)
+    }
 }

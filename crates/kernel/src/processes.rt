@@ -11,7 +11,7 @@ ghost use Rattle.kernel.specs.Judged.{Judged, Becomes};
 use crate::Done;
 use crate::Kernel;
 use crate::Verdict;
-use crate::answers::says;
+use crate::says;
 use procs::Procs;
 use queues::Pid;
 
@@ -20,20 +20,13 @@ const PROCESSES: u32 = 32;
 const CLASSES: u32 = 5;
 
 impl Kernel {
-    pub fn with_procs(mut self, next: Procs) -> Kernel
-        ensures { λ r. ⌜ r ≡ record { procs = next; unused = self .unused; mail = self .mail; count = self .count } ⌝ }
-    {
-        self.procs = next;
-        self
-    }
-
     // p, who is unused, becomes a process of a class and is made ready.
     fn created(mut self, p: Pid, class: u8) -> Kernel
         ensures { λ r. ⌜ Becomes (λ s. (places (s .procs) (p .0) ≡ 0) × (1 ≤ p .0) × (p .0 < processes) × (class < classes)) (Plain.created (p .0) class) self r ⌝ }
     {
         let k = self.procs;
-        let next = k.create(p, class);
-        self.procs = next;
+        let grown = k.create(p, class);
+        self.procs = grown;
         self.unused = bits::without_bit(self.unused, p.0 as u32);
         self
     }
@@ -44,9 +37,9 @@ impl Kernel {
     {
         let k = self.procs;
         let m = self.mail;
-        let next = k.halt(p);
+        let fewer = k.halt(p);
         let rest = m.let_go(p.0 as u32);
-        self.procs = next;
+        self.procs = fewer;
         self.mail = rest;
         self.unused = bits::with_bit(self.unused, p.0 as u32);
         self
@@ -105,19 +98,6 @@ impl Kernel {
             return self.refuse(v);
         }
         self.stopped(Pid((p % 256) as u8)).answer(0, 0)
-    }
-
-    // Calls that are refused only while 0 runs.
-    pub fn judge_idle(self) -> Verdict
-        ensures { λ r. ⌜ Judged (λ s. Plain.idle s ∷ []) self r ⌝ }
-    {
-        if !self.is_sound() {
-            return says(14);
-        }
-        if self.runner() == 0 {
-            return says(5);
-        }
-        says(0)
     }
 
     pub fn end(self) -> Done

@@ -10,7 +10,7 @@ ghost use Rattle.kernel.specs.Judged.{Judged, Becomes};
 use crate::Done;
 use crate::Kernel;
 use crate::Verdict;
-use crate::answers::says;
+use crate::says;
 
 const PROCESSES: u8 = 32;
 
