@@ -1,0 +1,99 @@
+-- The image of a kernel: its struct as bytes at fixed offsets, with no bytes between.
+-- Assumes nothing.
+use mathlib.Core.Path.{_≡_}
+use mathlib.Core.List.{List, _++_, List·Memᴰ}
+use Prim.Native.Nat.{ℕ, _^_, _<_}
+use lib.ListN.{length, replicate}
+use Rattle.queues.specs.declared.Pid.{Pid}
+use Rattle.queues.specs.declared.Queues.{Queues}
+use Rattle.boxes.specs.declared.Bid.{Bid}
+use Rattle.boxes.specs.declared.Boxes.{Boxes}
+use Rattle.procs.specs.declared.Procs.{Procs}
+use Rattle.mail.specs.declared.Mail.{Mail}
+use Rattle.kernel.specs.declared.Kernel.{Kernel}
+use Rattle.image.specs.Bytes.{byte, le, each}
+
+abbrev pub size : ℕ
+size = 443
+
+abbrev pub pid : Pid → List ℕ
+pid p = byte (p .0)
+
+abbrev pub bid : Bid → List ℕ
+bid b = byte (b .0)
+
+abbrev pub queues : Queues → List ℕ
+queues q = each pid (q .next) ++ each pid (q .prev)
+
+abbrev pub procs : Procs → List ℕ
+procs p = pid (p .running) ++ each byte (p .class) ++ each byte (p .ticks) ++ queues (p .queues) ++ le 4 (p .ready)
+
+abbrev pub boxes : Boxes → List ℕ
+boxes b = each bid (b .next) ++ each bid (b .prev)
+
+abbrev pub mail : Mail → List ℕ
+mail m = boxes (m .boxes) ++ each bid (m .hand) ++ le 4 (m .full) ++ each (le 2) (m .length) ++ le 4 (m .free)
+
+unfoldable pub image : Kernel → List ℕ
+image k = procs (k .procs) ++ le 4 (k .unused) ++ mail (k .mail) ++ each (le 2) (k .count)
+
+-- a struct's arrays have their lengths, and its numbers fit: so it is with every value of the struct type
+abbrev pub U8 : ℕ → Type 0
+U8 x = x < 2 ^ 8
+
+abbrev pub U16 : ℕ → Type 0
+U16 x = x < 2 ^ 16
+
+abbrev pub U32 : ℕ → Type 0
+U32 x = x < 2 ^ 32
+
+pub record Array {A : Type 0} (n : ℕ) (Fits : A → Type 0) (l : List A) : Type 0 where
+  pub long : length l ≡ n
+  pub fit : (x : A) → List·Memᴰ x l → Fits x
+
+pub record Sized (k : Kernel) : Type 0 where
+  pub running : U8 (k .procs .running .0)
+  pub class : Array 32 U8 (k .procs .class)
+  pub ticks : Array 32 U8 (k .procs .ticks)
+  pub next : Array 69 (λ p. U8 (p .0)) (k .procs .queues .next)
+  pub prev : Array 69 (λ p. U8 (p .0)) (k .procs .queues .prev)
+  pub ready : U32 (k .procs .ready)
+  pub unused : U32 (k .unused)
+  pub box-next : Array 48 (λ b. U8 (b .0)) (k .mail .boxes .next)
+  pub box-prev : Array 48 (λ b. U8 (b .0)) (k .mail .boxes .prev)
+  pub hand : Array 32 (λ b. U8 (b .0)) (k .mail .hand)
+  pub full : U32 (k .mail .full)
+  pub lengths : Array 32 U16 (k .mail .length)
+  pub free : U32 (k .mail .free)
+  pub count : Array 16 U16 (k .count)
+
+-- every field is zero
+abbrev pub blank : Kernel
+blank = record {
+  procs = record {
+    running = record { 0 = 0 };
+    class = replicate 32 0;
+    ticks = replicate 32 0;
+    queues = record { next = replicate 69 (record { 0 = 0 }); prev = replicate 69 (record { 0 = 0 }) };
+    ready = 0;
+  };
+  unused = 0;
+  mail = record {
+    boxes = record { next = replicate 48 (record { 0 = 0 }); prev = replicate 48 (record { 0 = 0 }) };
+    hand = replicate 32 (record { 0 = 0 });
+    full = 0;
+    length = replicate 32 0;
+    free = 0;
+  };
+  count = replicate 16 0;
+}
+
+-- what is read of an area: the kernel whose image it is, or zeros where it has another length
+pub record Read (area : List ℕ) (k : Kernel) : Type 0 where
+  pub whole : length area ≡ size → image k ≡ area
+  pub other : (length area ≡ size → ⊥) → k ≡ blank
+
+-- an area after k was written to it: k's image, or as it was where it has another length
+pub record Written (k : Kernel) (area after : List ℕ) : Type 0 where
+  pub whole : length area ≡ size → after ≡ image k
+  pub other : (length area ≡ size → ⊥) → after ≡ area

@@ -1,0 +1,170 @@
+// Reading: numbers, arrays and structs from the bytes of an area, at their places.
+// The area may have any length: what is not in it is read as zeros.
+ghost use mathlib.Core.Path.{_≡_};
+ghost use mathlib.Core.List.{[], _∷_};
+ghost use Prim.Native.Nat.{_*_};
+ghost use lib.ListN.{length};
+ghost use Rattle.image.specs.Bytes.{byte, le, each, Got};
+ghost use Rattle.image.specs.Image.{pid, bid, queues, procs, boxes, mail};
+use crate::layout;
+use boxes::Bid;
+use boxes::Boxes;
+use mail::Mail;
+use procs::Procs;
+use queues::Pid;
+use queues::Queues;
+
+pub fn byte(area: &[u8], at: usize) -> u8
+    ensures { λ r. ⌜ Got at 1 (byte r) (now (area .entry)) ⌝ }
+{
+    if at < area.len() {
+        return area[at];
+    }
+    0
+}
+
+// The number that has these bytes, the lowest first.
+fn from_le32(a: u8, b: u8, c: u8, d: u8) -> u32
+    ensures { λ r. ⌜ le 4 r ≡ a ∷ b ∷ c ∷ d ∷ [] ⌝ }
+{
+    a as u32 + 256 * (b as u32 + 256 * (c as u32 + 256 * (d as u32)))
+}
+
+pub fn word(area: &[u8], at: usize) -> u32
+    ensures { λ r. ⌜ Got at 4 (le 4 r) (now (area .entry)) ⌝ }
+{
+    if !layout::has_room(area.len(), at, 4) {
+        return 0;
+    }
+    from_le32(area[at], area[at + 1], area[at + 2], area[at + 3])
+}
+
+fn from_le16(a: u8, b: u8) -> u16
+    ensures { λ r. ⌜ le 2 r ≡ a ∷ b ∷ [] ⌝ }
+{
+    a as u16 + 256 * (b as u16)
+}
+
+pub fn halfwords(area: &[u8], at: usize, out: &mut [u16])
+    ensures { λ _. ⌜ Got at (2 * length (now (out .entry))) (each (le 2) (now (out .exit))) (now (area .entry)) ⌝ }
+{
+    if !layout::has_room(area.len(), at, 2 * out.len()) {
+        return;
+    }
+    let mut i = 0;
+    while i < out.len() {
+        out[i] = from_le16(area[at + 2 * i], area[at + 2 * i + 1]);
+        i += 1;
+    }
+}
+
+pub fn bytes(area: &[u8], at: usize) -> [u8; 32]
+    ensures { λ r. ⌜ Got at 32 (each byte r) (now (area .entry)) ⌝ }
+{
+    let mut out = [0u8; 32];
+    if !layout::has_room(area.len(), at, 32) {
+        return out;
+    }
+    let mut i = 0;
+    while i < 32 {
+        out[i] = area[at + i];
+        i += 1;
+    }
+    out
+}
+
+pub fn links(area: &[u8], at: usize) -> [Pid; 69]
+    ensures { λ r. ⌜ Got at 69 (each pid r) (now (area .entry)) ⌝ }
+{
+    let mut out = [Pid(0); 69];
+    if !layout::has_room(area.len(), at, 69) {
+        return out;
+    }
+    let mut i = 0;
+    while i < 69 {
+        out[i] = Pid(area[at + i]);
+        i += 1;
+    }
+    out
+}
+
+pub fn box_links(area: &[u8], at: usize) -> [Bid; 48]
+    ensures { λ r. ⌜ Got at 48 (each bid r) (now (area .entry)) ⌝ }
+{
+    let mut out = [Bid(0); 48];
+    if !layout::has_room(area.len(), at, 48) {
+        return out;
+    }
+    let mut i = 0;
+    while i < 48 {
+        out[i] = Bid(area[at + i]);
+        i += 1;
+    }
+    out
+}
+
+pub fn hands(area: &[u8], at: usize) -> [Bid; 32]
+    ensures { λ r. ⌜ Got at 32 (each bid r) (now (area .entry)) ⌝ }
+{
+    let mut out = [Bid(0); 32];
+    if !layout::has_room(area.len(), at, 32) {
+        return out;
+    }
+    let mut i = 0;
+    while i < 32 {
+        out[i] = Bid(area[at + i]);
+        i += 1;
+    }
+    out
+}
+
+pub fn queues(area: &[u8]) -> Queues
+    ensures { λ r. ⌜ Got 65 138 (queues r) (now (area .entry)) ⌝ }
+{
+    let next = links(area, layout::NEXT);
+    let prev = links(area, layout::PREV);
+    Queues { next, prev }
+}
+
+pub fn procs(area: &[u8]) -> Procs
+    ensures { λ r. ⌜ Got 0 207 (procs r) (now (area .entry)) ⌝ }
+{
+    let running = Pid(byte(area, layout::RUNNING));
+    let class = bytes(area, layout::CLASS);
+    let ticks = bytes(area, layout::TICKS);
+    let q = queues(area);
+    let ready = word(area, layout::READY);
+    Procs {
+        running,
+        class,
+        ticks,
+        queues: q,
+        ready,
+    }
+}
+
+pub fn boxes(area: &[u8]) -> Boxes
+    ensures { λ r. ⌜ Got 211 96 (boxes r) (now (area .entry)) ⌝ }
+{
+    let next = box_links(area, layout::BOX_NEXT);
+    let prev = box_links(area, layout::BOX_PREV);
+    Boxes { next, prev }
+}
+
+pub fn mail(area: &[u8]) -> Mail
+    ensures { λ r. ⌜ Got 211 200 (mail r) (now (area .entry)) ⌝ }
+{
+    let b = boxes(area);
+    let hand = hands(area, layout::HAND);
+    let full = word(area, layout::FULL);
+    let mut length = [0u16; 32];
+    halfwords(area, layout::LENGTH, &mut length);
+    let free = word(area, layout::FREE);
+    Mail {
+        boxes: b,
+        hand,
+        full,
+        length,
+        free,
+    }
+}

@@ -1,0 +1,91 @@
+// The image of a kernel: its struct as bytes at fixed offsets, in an area that is lent.
+// An area may have any length: one that is not as long as an image is not written, and zeros are read of it.
+ghost use mathlib.Core.Path.{_≡_};
+ghost use Rattle.image.specs.Image.{blank, Read, Written};
+use boxes::Bid;
+use boxes::Boxes;
+use kernel::Kernel;
+use mail::Mail;
+use procs::Procs;
+use queues::Pid;
+use queues::Queues;
+
+mod get;
+mod layout;
+mod put;
+
+// The kernel whose image the area is.
+pub fn read(area: &[u8]) -> Kernel
+    ensures { λ r. ⌜ Read (now (area .entry)) r ⌝ }
+{
+    if area.len() != layout::SIZE {
+        return blank();
+    }
+    let procs = get::procs(area);
+    let unused = get::word(area, layout::UNUSED);
+    let mail = get::mail(area);
+    let mut count = [0u16; 16];
+    get::halfwords(area, layout::COUNT, &mut count);
+    Kernel {
+        procs,
+        unused,
+        mail,
+        count,
+    }
+}
+
+// The area becomes the image of k.
+pub fn write(area: &mut [u8], k: Kernel)
+    ensures { λ _. ⌜ Written k (now (area .entry)) (now (area .exit)) ⌝ }
+{
+    if area.len() != layout::SIZE {
+        return;
+    }
+    let p = k.procs;
+    put::procs(area, p);
+    put::word(area, layout::UNUSED, k.unused);
+    let m = k.mail;
+    put::mail(area, m);
+    let count = k.count;
+    put::halfwords(area, layout::COUNT, &count);
+}
+
+// Every field is zero.
+fn blank() -> Kernel
+    ensures { λ r. ⌜ r ≡ blank ⌝ }
+{
+    let links = [Pid(0); 69];
+    let queues = Queues {
+        next: links,
+        prev: links,
+    };
+    let row = [0u8; 32];
+    let procs = Procs {
+        running: Pid(0),
+        class: row,
+        ticks: row,
+        queues,
+        ready: 0,
+    };
+    let box_links = [Bid(0); 48];
+    let boxes = Boxes {
+        next: box_links,
+        prev: box_links,
+    };
+    let hand = [Bid(0); 32];
+    let length = [0u16; 32];
+    let mail = Mail {
+        boxes,
+        hand,
+        full: 0,
+        length,
+        free: 0,
+    };
+    let count = [0u16; 16];
+    Kernel {
+        procs,
+        unused: 0,
+        mail,
+        count,
+    }
+}

@@ -1,0 +1,148 @@
+// Writing: numbers, arrays and structs as bytes into an area, at their places.
+// The area may have any length: what has no room in it is not written.
+ghost use Prim.Native.Nat.{_*_};
+ghost use lib.ListN.{length};
+ghost use Rattle.image.specs.Bytes.{byte, le, each, Put};
+ghost use Rattle.image.specs.Image.{pid, bid, queues, procs, boxes, mail};
+use crate::layout;
+use boxes::Bid;
+use boxes::Boxes;
+use mail::Mail;
+use procs::Procs;
+use queues::Pid;
+use queues::Queues;
+
+pub fn byte(area: &mut [u8], at: usize, x: u8)
+    ensures { λ _. ⌜ Put at 1 (byte x) (now (area .entry)) (now (area .exit)) ⌝ }
+{
+    if at < area.len() {
+        area[at] = x;
+    }
+}
+
+pub fn word(area: &mut [u8], at: usize, x: u32)
+    ensures { λ _. ⌜ Put at 4 (le 4 x) (now (area .entry)) (now (area .exit)) ⌝ }
+{
+    if !layout::has_room(area.len(), at, 4) {
+        return;
+    }
+    area[at] = (x % 256) as u8;
+    area[at + 1] = (x / 256 % 256) as u8;
+    area[at + 2] = (x / 65536 % 256) as u8;
+    area[at + 3] = (x / 16777216 % 256) as u8;
+}
+
+pub fn halfwords(area: &mut [u8], at: usize, xs: &[u16])
+    ensures { λ _. ⌜ Put at (2 * length (now (xs .entry))) (each (le 2) (now (xs .entry))) (now (area .entry)) (now (area .exit)) ⌝ }
+{
+    if !layout::has_room(area.len(), at, 2 * xs.len()) {
+        return;
+    }
+    let mut i = 0;
+    while i < xs.len() {
+        let x = xs[i];
+        area[at + 2 * i] = (x % 256) as u8;
+        area[at + 2 * i + 1] = (x / 256 % 256) as u8;
+        i += 1;
+    }
+}
+
+pub fn bytes(area: &mut [u8], at: usize, xs: [u8; 32])
+    ensures { λ _. ⌜ Put at 32 (each byte xs) (now (area .entry)) (now (area .exit)) ⌝ }
+{
+    if !layout::has_room(area.len(), at, 32) {
+        return;
+    }
+    let mut i = 0;
+    while i < 32 {
+        area[at + i] = xs[i];
+        i += 1;
+    }
+}
+
+pub fn links(area: &mut [u8], at: usize, xs: [Pid; 69])
+    ensures { λ _. ⌜ Put at 69 (each pid xs) (now (area .entry)) (now (area .exit)) ⌝ }
+{
+    if !layout::has_room(area.len(), at, 69) {
+        return;
+    }
+    let mut i = 0;
+    while i < 69 {
+        let p = xs[i];
+        area[at + i] = p.0;
+        i += 1;
+    }
+}
+
+pub fn box_links(area: &mut [u8], at: usize, xs: [Bid; 48])
+    ensures { λ _. ⌜ Put at 48 (each bid xs) (now (area .entry)) (now (area .exit)) ⌝ }
+{
+    if !layout::has_room(area.len(), at, 48) {
+        return;
+    }
+    let mut i = 0;
+    while i < 48 {
+        let b = xs[i];
+        area[at + i] = b.0;
+        i += 1;
+    }
+}
+
+pub fn hands(area: &mut [u8], at: usize, xs: [Bid; 32])
+    ensures { λ _. ⌜ Put at 32 (each bid xs) (now (area .entry)) (now (area .exit)) ⌝ }
+{
+    if !layout::has_room(area.len(), at, 32) {
+        return;
+    }
+    let mut i = 0;
+    while i < 32 {
+        let b = xs[i];
+        area[at + i] = b.0;
+        i += 1;
+    }
+}
+
+pub fn queues(area: &mut [u8], q: Queues)
+    ensures { λ _. ⌜ Put 65 138 (queues q) (now (area .entry)) (now (area .exit)) ⌝ }
+{
+    let next = q.next;
+    links(area, layout::NEXT, next);
+    let prev = q.prev;
+    links(area, layout::PREV, prev);
+}
+
+pub fn procs(area: &mut [u8], p: Procs)
+    ensures { λ _. ⌜ Put 0 207 (procs p) (now (area .entry)) (now (area .exit)) ⌝ }
+{
+    let running = p.running;
+    byte(area, layout::RUNNING, running.0);
+    let class = p.class;
+    bytes(area, layout::CLASS, class);
+    let ticks = p.ticks;
+    bytes(area, layout::TICKS, ticks);
+    let q = p.queues;
+    queues(area, q);
+    word(area, layout::READY, p.ready);
+}
+
+pub fn boxes(area: &mut [u8], b: Boxes)
+    ensures { λ _. ⌜ Put 211 96 (boxes b) (now (area .entry)) (now (area .exit)) ⌝ }
+{
+    let next = b.next;
+    box_links(area, layout::BOX_NEXT, next);
+    let prev = b.prev;
+    box_links(area, layout::BOX_PREV, prev);
+}
+
+pub fn mail(area: &mut [u8], m: Mail)
+    ensures { λ _. ⌜ Put 211 200 (mail m) (now (area .entry)) (now (area .exit)) ⌝ }
+{
+    let b = m.boxes;
+    boxes(area, b);
+    let hand = m.hand;
+    hands(area, layout::HAND, hand);
+    word(area, layout::FULL, m.full);
+    let length = m.length;
+    halfwords(area, layout::LENGTH, &length);
+    word(area, layout::FREE, m.free);
+}

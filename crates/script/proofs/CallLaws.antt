@@ -1,0 +1,70 @@
+-- Laws of a line's words and of its request.
+-- Assumes nothing.
+use Prim.Native.Nat.{ℕ, _+_, _<_}
+use mathlib.Core.Path.{_≡_, refl, sym, ap, _∙_}
+use mathlib.Core.Bool.{true, false, true≢false}
+use mathlib.Core.List.{List, _∷_}
+use mathlib.Core.Option.{Option, none, some}
+use lib.ListN.{length}
+use lib.Seq.{take-append-seam}
+use Rattle.plain.specs.Calls.{Call, create, stop, end, yield, class, tick, send, receive, read, release, signal, wait}
+use Rattle.script.specs.Grammar.{words, call, message, sentence}
+use Rattle.script.specs.Request.{means, requestOf, Tells}
+use Rattle.script.specs.Promises.{firstSpace, bytesOf}
+use Rattle.script.specs.declared.calls.Request.{Request}
+use Rattle.script.specs.declared.hex.Bytes.{Bytes}
+use Rattle.script.proofs.LimitLaws.{call-limited}
+use Rattle.script.proofs.WordLaws.{rest, words-cut, words-begin}
+
+-- a third space makes a fourth word, which no call has
+pub sentence-four : (w m l : List ℕ) → firstSpace l < length l → sentence (w ∷ m ∷ words l) ≡ none
+sentence-four w m l h =
+    let more = words-begin (rest l (firstSpace l + 1)) in
+    rw (words-cut l _ refl h, more .whole)
+
+-- what the answer of the reading of bytes tells
+module _ (o : Option (List ℕ)) (r : Bytes) (answer : r ≡ bytesOf o) where
+  pub bytes-bad : r .good ≡ false → o ≡ none
+  bytes-bad e = go o answer
+    where
+      go : (p : Option (List ℕ)) → r ≡ bytesOf p → p ≡ none
+      go none a = refl
+      go (some b) a = absurd (true≢false (sym (ap (λ (x : Bytes). x .good) a) ∙ e))
+
+  pub bytes-good : (n : ℕ) → r .good ≡ true → _≡_ {A = Request} (record { word = 7; number = n; bytes = r .bytes; length = r .length }) (requestOf (message (some n) o))
+  bytes-good n e = go o answer
+    where
+      go : (p : Option (List ℕ)) → r ≡ bytesOf p → _≡_ {A = Request} (record { word = 7; number = n; bytes = r .bytes; length = r .length }) (requestOf (message (some n) p))
+      go none a = absurd (true≢false (sym e ∙ ap (λ (x : Bytes). x .good) a))
+      go (some b) a = ap (λ (x : Bytes). record { word = 7; number = n; bytes = x .bytes; length = x .length }) a
+
+-- the request of a call means that call
+pub means-request : (c : Option Call) → means (requestOf c) ≡ c
+means-request none = refl
+means-request (some (create n)) = refl
+means-request (some (stop n)) = refl
+means-request (some end) = refl
+means-request (some yield) = refl
+means-request (some (class n)) = refl
+means-request (some tick) = refl
+means-request (some (send n b)) = simp take-append-seam
+means-request (some (receive n)) = refl
+means-request (some (read n)) = refl
+means-request (some release) = refl
+means-request (some (signal n)) = refl
+means-request (some (wait n)) = refl
+
+pub tells : (line : List ℕ) (r : Request) → r ≡ requestOf (call line) → Tells line r
+tells line r e =
+    let meaning : means r ≡ call line = ap means e ∙ means-request (call line) in
+    let limits = call-limited line in
+    record {
+      meaning = meaning;
+      zeros = e ∙ sym (ap requestOf meaning);
+      short = rw e (limits .short);
+      room = rw e (limits .room);
+    }
+
+-- no second request keeps the promise for a line
+pub one-request : (line : List ℕ) (r s : Request) → Tells line r → Tells line s → r ≡ s
+one-request line r s a b = a .zeros ∙ ap requestOf (a .meaning ∙ sym (b .meaning)) ∙ sym (b .zeros)

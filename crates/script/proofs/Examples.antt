@@ -1,0 +1,88 @@
+-- The lines of the paper's sample, and the edges of what it allows, computed.
+-- Assumes nothing.
+use Prim.Native.Nat.{ℕ}
+use Prim.Native.Char.{code}
+use Prim.Native.String.{String}
+use mathlib.Core.Path.{_≡_, refl}
+use mathlib.Core.List.{List, [], _∷_, _++_, map}
+use mathlib.Core.Option.{Option, none, some}
+use lib.ListN.{replicate}
+use Rattle.plain.specs.Calls.{Call, create, stop, end, yield, class, tick, send, receive, read, release, signal, wait}
+use Rattle.script.specs.Ascii.{ascii}
+use Rattle.script.specs.Grammar.{call}
+use Rattle.script.specs.Answer.{digitsOf, decimal, answer, line, readLine}
+
+abbrev lines : List (String × Option Call)
+lines =
+    ("create 2", some (create 2))
+    ∷ ("tick", some tick)
+    ∷ ("send 3 414243", some (send 3 (65 ∷ 66 ∷ 67 ∷ [])))
+    ∷ ("receive 3", some (receive 3))
+    ∷ ("read 2", some (read 2))
+    ∷ ("end", some end)
+    ∷ ("frob", none)
+    ∷ ("stop 31", some (stop 31))
+    ∷ ("yield", some yield)
+    ∷ ("release", some release)
+    ∷ ("signal 15", some (signal 15))
+    ∷ ("wait 15", some (wait 15))
+    -- what the kernel refuses is a good line
+    ∷ ("class 9", some (class 9))
+    ∷ ("send 300 -", some (send 300 []))
+    -- numbers
+    ∷ ("read 512", some (read 512))
+    ∷ ("read 513", none)
+    ∷ ("create 0", some (create 0))
+    ∷ ("create 07", none)
+    ∷ ("create 65535", some (create 65535))
+    ∷ ("create 65536", none)
+    ∷ ("create 4294967297", none)
+    ∷ ("create -1", none)
+    -- bytes
+    ∷ ("send 3 4", none)
+    ∷ ("send 3 4A", none)
+    ∷ ("send 3 --", none)
+    ∷ ("send 3 00ff", some (send 3 (0 ∷ 255 ∷ [])))
+    -- words and spaces
+    ∷ ("", none)
+    ∷ ("Tick", none)
+    ∷ ("ticks", none)
+    ∷ ("tick 1", none)
+    ∷ ("create", none)
+    ∷ ("send 3", none)
+    ∷ ("send 3 41 42", none)
+    ∷ (" tick", none)
+    ∷ ("tick ", none)
+    ∷ ("create  2", none)
+    ∷ []
+
+lines-read : map (λ (x : String × Option Call). call (ascii (x .0))) lines ≡ map (λ (x : String × Option Call). x .1) lines
+unfolding call
+lines-read = refl
+
+-- "up to 600 bytes", "one over 1,300 bytes"
+abbrev zeros : ℕ → List ℕ
+zeros n = ascii "send 0 " ++ replicate n (code "0")
+
+longest-message : call (zeros 1200) ≡ some (send 0 (replicate 600 0))
+unfolding call
+longest-message = refl
+
+longer-message : call (zeros 1202) ≡ none
+unfolding call
+longer-message = refl
+
+answers : List (List ℕ × String)
+answers =
+    (line (answer 0 1 1), "0 1 1")
+    ∷ (line (answer 9 3 1), "9 3 1")
+    ∷ (line (answer 32 0 0), "32 0 0")
+    ∷ (line (answer 10 100 4294967295), "10 100 4294967295")
+    ∷ (readLine (answer 0 3 1) (ascii "ABC"), "0 3 1 414243")
+    ∷ (readLine (answer 0 2 31) (0 ∷ 255 ∷ []), "0 2 31 00ff")
+    ∷ (readLine (answer 0 0 1) [], "0 0 1 -")
+    ∷ []
+
+answers-written : map (λ (x : List ℕ × String). x .0) answers ≡ map (λ (x : List ℕ × String). ascii (x .1)) answers
+unfolding answers digitsOf decimal
+answers-written = refl

@@ -1,0 +1,8 @@
+pub mod WordLaws
+pub mod NumberLaws
+pub mod HexLaws
+pub mod LimitLaws
+pub mod CallLaws
+pub mod AreaLaws
+pub mod TextLaws
+pub mod Examples

@@ -1,0 +1,151 @@
+-- "The replay desk": which kernel call a line of a script is.
+-- A line is the list of its bytes, without the newline. Assumes nothing.
+use Prim.Native.Nat.{ℕ, _+_, _*_, _-_}
+use Prim.Native.Char.{code}
+use mathlib.Core.Bool.{Bool, true, false, _&&_}
+use mathlib.Core.List.{List, [], _∷_}
+use mathlib.Core.Option.{Option, none, some}
+use lib.ListN.{length}
+use lib.Dec.{ltb, leb, eqb}
+use Rattle.lists.specs.Lists.{if_then_else_}
+use Rattle.plain.specs.Calls.{Call, create, stop, end, yield, class, tick, send, receive, read, release, signal, wait}
+use Rattle.script.specs.Ascii.{ascii, space}
+
+-- ---- limits
+
+-- "one over 1,300 bytes gives `bad`"
+abbrev pub longestLine : ℕ
+longestLine = 1300
+
+-- "0 to 65,535"
+abbrev pub highestNumber : ℕ
+highestNumber = 65535
+
+-- "up to 600 bytes"
+abbrev pub mostBytes : ℕ
+mostBytes = 600
+
+-- "read takes a room size up to 512"
+abbrev pub largestRoom : ℕ
+largestRoom = 512
+
+-- ---- words
+
+-- x before the first of the words
+abbrev pub begin : ℕ → List (List ℕ) → List (List ℕ)
+begin x [] = (x ∷ []) ∷ []
+begin x (w ∷ ws) = (x ∷ w) ∷ ws
+
+-- "One space between words, none elsewhere": the line is cut at every space, so that a doubled, a leading or a trailing one leaves an empty word, which nothing below accepts.
+abbrev pub words : List ℕ → List (List ℕ)
+words [] = [] ∷ []
+words (x ∷ l) = if eqb x space then [] ∷ words l else begin x (words l)
+
+-- "matched as exact bytes"
+abbrev pub same : List ℕ → List ℕ → Bool
+same [] [] = true
+same [] (y ∷ m) = false
+same (x ∷ l) [] = false
+same (x ∷ l) (y ∷ m) = eqb x y && same l m
+
+-- ---- numbers
+
+abbrev pub isDigit : ℕ → Bool
+isDigit x = leb (code "0") x && leb x (code "9")
+
+-- "Numbers are decimal": what the digits mean where those before them mean v
+abbrev pub digits : ℕ → List ℕ → Option ℕ
+digits v [] = some v
+digits v (x ∷ l) = if isDigit x then digits (v * 10 + (x - code "0")) l else none
+
+-- "no leading zero": none before another digit
+abbrev pub leadingZero : List ℕ → Bool
+leadingZero [] = false
+leadingZero (x ∷ []) = false
+leadingZero (x ∷ y ∷ l) = eqb x (code "0")
+
+abbrev pub upTo : ℕ → Option ℕ → Option ℕ
+upTo k none = none
+upTo k (some n) = if leb n k then some n else none
+
+-- "Numbers are decimal, 0 to 65,535, no leading zero"
+abbrev pub number : List ℕ → Option ℕ
+number [] = none
+number (x ∷ l) = if leadingZero (x ∷ l) then none else upTo highestNumber (digits 0 (x ∷ l))
+
+-- ---- bytes
+
+-- "lowercase hex"
+abbrev pub hexDigit : ℕ → Option ℕ
+hexDigit x = if isDigit x then some (x - code "0") else if leb (code "a") x && leb x (code "f") then some (x - code "a" + 10) else none
+
+abbrev pub byte : Option ℕ → Option ℕ → Option ℕ
+byte none l = none
+byte (some h) none = none
+byte (some h) (some l) = some (h * 16 + l)
+
+abbrev pub prepend : Option ℕ → Option (List ℕ) → Option (List ℕ)
+prepend none b = none
+prepend (some x) none = none
+prepend (some x) (some b) = some (x ∷ b)
+
+-- "hex pairs"
+abbrev pub pairs : List ℕ → Option (List ℕ)
+pairs [] = some []
+pairs (x ∷ []) = none
+pairs (x ∷ y ∷ l) = prepend (byte (hexDigit x) (hexDigit y)) (pairs l)
+
+abbrev pub atMost : ℕ → Option (List ℕ) → Option (List ℕ)
+atMost k none = none
+atMost k (some b) = if leb (length b) k then some b else none
+
+-- "up to 600 bytes as lowercase hex pairs. No bytes are written `-`"
+abbrev pub bytes : List ℕ → Option (List ℕ)
+bytes [] = none
+bytes (x ∷ l) = if same (x ∷ l) (ascii "-") then some [] else atMost mostBytes (pairs (x ∷ l))
+
+-- ---- calls: "create, stop, end, yield, class, tick, send, receive, read, release, signal, wait"
+
+-- the words that stand alone
+abbrev pub alone : List ℕ → Option Call
+alone w =
+    if same w (ascii "end") then some end else
+    if same w (ascii "yield") then some yield else
+    if same w (ascii "tick") then some tick else
+    if same w (ascii "release") then some release else none
+
+-- "read takes a room size up to 512"
+abbrev pub reading : ℕ → Option Call
+reading n = if leb n largestRoom then some (read n) else none
+
+-- the words that take a number
+abbrev pub numbered : List ℕ → Option ℕ → Option Call
+numbered w none = none
+numbered w (some n) =
+    if same w (ascii "create") then some (create n) else
+    if same w (ascii "stop") then some (stop n) else
+    if same w (ascii "class") then some (class n) else
+    if same w (ascii "receive") then some (receive n) else
+    if same w (ascii "read") then reading n else
+    if same w (ascii "signal") then some (signal n) else
+    if same w (ascii "wait") then some (wait n) else none
+
+abbrev pub message : Option ℕ → Option (List ℕ) → Option Call
+message none b = none
+message (some m) none = none
+message (some m) (some b) = some (send m b)
+
+-- "send takes a mailbox and up to 600 bytes"
+abbrev pub sending : List ℕ → Option ℕ → Option (List ℕ) → Option Call
+sending w m b = if same w (ascii "send") then message m b else none
+
+abbrev pub sentence : List (List ℕ) → Option Call
+sentence [] = none
+sentence (w ∷ []) = alone w
+sentence (w ∷ n ∷ []) = numbered w (number n)
+sentence (w ∷ m ∷ b ∷ []) = sending w (number m) (bytes b)
+sentence (w ∷ m ∷ b ∷ x ∷ l) = none
+
+-- "Any other line, a blank one or one over 1,300 bytes gives `bad`": those are none.
+unfoldable pub call : List ℕ → Option Call
+call line = if ltb longestLine (length line) then none else sentence (words line)
