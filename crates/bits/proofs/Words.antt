@@ -12,7 +12,7 @@ use lib.Count.{leadingZeros, leading-top, trailingZeros, under}
 use lib.Dec.{eqb}
 use lib.Pow.{pow-mono, shl-exact, shr-shr}
 use Rattle.lists.specs.Lists.{if_then_else_, put, lowest}
-use Rattle.lists.proofs.Laws.{same?, put-same, put-other, lowest-same}
+use Rattle.lists.proofs.Laws.{either, same?, le?, put-same, put-other, lowest-same}
 use Rattle.bits.specs.Word.{bit, word, bits, highest}
 
 -- ---- a word and its bits
@@ -100,6 +100,20 @@ pub highest-none : (n d : ℕ) (t : ℕ → Bool) → ((i : ℕ) → i < n → t
 unfolding highest
 highest-none zero d t h = refl
 highest-none (suc n) d t h = rw (h n (omega arith)) (highest-none n d t (λ i b. h i (omega arith)))
+
+-- it passes, and none above it does
+pub highest-on : (n d : ℕ) (t : ℕ → Bool) → highest n d t ≢ d → t (highest n d t) ≡ true
+unfolding highest
+highest-on zero d t r = absurd (r refl)
+highest-on (suc n) d t r = ⊎-elim (λ e. rw e e) (λ e. rw e (highest-on n d t (rw e at r))) (either (t n))
+
+pub highest-off : (n d : ℕ) (t : ℕ → Bool) (i : ℕ) → highest n d t < i → i < n → t i ≡ false
+unfolding highest
+highest-off zero d t i a h = absurd (omega arith)
+highest-off (suc n) d t i a h = ⊎-elim
+    (λ e. absurd (omega (arith, rw e at a)))
+    (λ e. ⊎-elim (λ (g : n ≤ i). let x : n ≡ i = omega arith in rw (← x) e) (λ (g : i < n). highest-off n d t i (rw e at a) g) (le? n i))
+    (either (t n))
 
 pub highest-same : (n d : ℕ) (t u : ℕ → Bool) → ((i : ℕ) → i < n → t i ≡ u i) → highest n d t ≡ highest n d u
 unfolding highest

@@ -25,7 +25,7 @@ use Rattle.mail.specs.Carries as Carries
 use Rattle.seats.specs.Seats as Seats
 use Rattle.stock.specs.Stock as Stock
 use Rattle.kernel.specs.Holds.{IsSound}
-use Rattle.kernel.specs.Waits.{AllFit, isHolding}
+use Rattle.waits.specs.Waits.{AllFit, isHolding}
 use Rattle.kernel.specs.declared.Kernel.{Kernel}
 use Rattle.kernel.proofs.Reading.{top}
 use Rattle.kernel.proofs.Whole.{fits, empty-bit, whole}

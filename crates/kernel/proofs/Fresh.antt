@@ -1,9 +1,10 @@
 -- The state that a fresh kernel is held in.
 -- Assumes nothing.
-use Prim.Native.Nat.{ℕ, zero, suc}
+use Prim.Native.Nat.{ℕ}
 use mathlib.Core.Path.{_≡_, refl, _∙_}
-use lib.ListN.{getD, replicate}
+use lib.ListN.{replicate}
 use Rattle.lists.specs.Lists.{total}
+use Rattle.lists.proofs.Laws.{zeros}
 use Rattle.bits.specs.Word.{width, word}
 use Rattle.plain.specs.Sizes.{semaphores}
 use Rattle.plain.specs.State as State
@@ -16,11 +17,6 @@ use Rattle.mail.specs.Moves as Mail
 use Rattle.seats.specs.Seats.{isUnused}
 use Rattle.kernel.specs.Holds.{Holds}
 use Rattle.kernel.specs.declared.Kernel.{Kernel}
-
-zeros : (n p : ℕ) → _≡_ {A = ℕ} (getD (replicate n 0) p 0) 0
-zeros zero p = refl
-zeros (suc n) zero = refl
-zeros (suc n) (suc p) = zeros n p
 
 -- every number but 0
 all-unused : 4294967294 ≡ word width (isUnused (State.fresh .procs))

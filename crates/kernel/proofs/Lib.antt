@@ -8,6 +8,5 @@ pub mod One
 pub mod Theorems
 pub mod Changes
 pub mod Reading
-pub mod Waiting
 pub mod Decided
 pub mod Fresh

@@ -14,7 +14,7 @@ use Rattle.plain_laws.proofs.Refusals.{unchanged}
 use Rattle.plain_laws.proofs.Sound.{fresh-sound, after-sound}
 use Rattle.plain_laws.proofs.Theorems.{fairness}
 use Rattle.plain_laws.specs.History.{isDone, isRefusal}
-use Rattle.rings.specs.Walk.{Says}
+use Rattle.rings.proofs.Decisions.{one-decision}
 use Rattle.kernel.specs.Holds.{IsSound}
 use Rattle.kernel.specs.Promise.{Gives, Call, sound, unsound, withStore, storeAfter, roomAfter}
 use Rattle.kernel.specs.Theorems.{OneAnswer, Sequences, refuses, RefusedChangesNothing, FairRuns}
@@ -47,12 +47,6 @@ one-area : {f : State → Plain.Outcome} (later : State → List ℕ) (area : Li
 one-area later area a b k r r′ (sound i h) p = h (i .0) (i .1) (i .2) .1 ∙ sym (meets p (i .0) (i .1) (i .2) .1)
 one-area later area a b k r r′ (unsound n e x s) (sound i h) = absurd (n i)
 one-area later area a b k r r′ (unsound n e x s) (unsound n′ e′ x′ s′) = s ∙ sym s′
-
-one-decision : (P : Type 0) (b b′ : Bool) → Says b P → Says b′ P → b ≡ b′
-one-decision P true true p q = refl
-one-decision P true false p q = absurd (q p)
-one-decision P false true p q = absurd (p q)
-one-decision P false false p q = refl
 
 pub one-answer : OneAnswer
 one-answer = record {

@@ -25,7 +25,7 @@ use Rattle.plain.specs.State.{Message, State, places}
 use Rattle.plain_laws.proofs.Places.{runs-once}
 use Rattle.plain_laws.proofs.Seats.{member, nowhere}
 use Rattle.mail.specs.Carries as Carries
-use Rattle.kernel.specs.Waits.{HandFits, WaitFits}
+use Rattle.waits.specs.Waits.{HandFits, WaitFits}
 use Rattle.kernel.proofs.Reading.{nobody-there, empty-hand-is}
 
 -- who stands in no queue and does not run is in no place

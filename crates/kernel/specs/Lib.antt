@@ -1,5 +1,4 @@
 pub mod Holds
 pub mod Promise
 pub mod Theorems
-pub mod Waits
 pub mod Judged

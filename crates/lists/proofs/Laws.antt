@@ -6,7 +6,7 @@ use mathlib.Core.Bool.{Bool, true, false, _||_, true≢false}
 use mathlib.Core.Logic.{_≢_, _⊎_, inl, inr, ⊎-elim}
 use mathlib.Core.List.{List, [], _∷_, _++_}
 use native.Mathlib.Omega.{arith}
-use lib.ListN.{length}
+use lib.ListN.{length, getD, replicate}
 use lib.Dec.{leb, eqb}
 use borrow.Author.Tests.{leb-true, leb-false, eqb-true, eqb-false, eq-eqb, ne-eqb}
 use Rattle.lists.specs.Lists.{if_then_else_, put, one, total, occurs, without, lowest}
@@ -219,3 +219,10 @@ pub taken-out : (p q : ℕ) (f : ℕ → List ℕ) (a b : List ℕ) → f q ≡ 
 taken-out p q f a b e n m away = fun-ext (λ i. ⊎-elim
     (λ (d : i ≡ q). rw (d, put-same f q (a ++ b), e) (without-split p a b n m))
     (λ (d : i ≢ q). without-absent p (f i) (away i d) ∙ sym (put-other f q (a ++ b) i d)) (same? i q))
+
+-- ---- zeros
+
+pub zeros : (n p : ℕ) → _≡_ {A = ℕ} (getD (replicate n 0) p 0) 0
+zeros zero p = refl
+zeros (suc n) zero = refl
+zeros (suc n) (suc p) = zeros n p

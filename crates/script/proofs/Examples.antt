@@ -8,9 +8,8 @@ use mathlib.Core.List.{List, [], _∷_, _++_, map}
 use mathlib.Core.Option.{Option, none, some}
 use lib.ListN.{replicate}
 use Rattle.plain.specs.Calls.{Call, create, stop, end, yield, class, tick, send, receive, read, release, signal, wait}
-use Rattle.script.specs.Ascii.{ascii}
+use Rattle.answers.specs.Ascii.{ascii}
 use Rattle.script.specs.Grammar.{call}
-use Rattle.script.specs.Answer.{digitsOf, decimal, answer, line, readLine}
 
 abbrev lines : List (String × Option Call)
 lines =
@@ -71,18 +70,3 @@ longest-message = refl
 longer-message : call (zeros 1202) ≡ none
 unfolding call
 longer-message = refl
-
-answers : List (List ℕ × String)
-answers =
-    (line (answer 0 1 1), "0 1 1")
-    ∷ (line (answer 9 3 1), "9 3 1")
-    ∷ (line (answer 32 0 0), "32 0 0")
-    ∷ (line (answer 10 100 4294967295), "10 100 4294967295")
-    ∷ (readLine (answer 0 3 1) (ascii "ABC"), "0 3 1 414243")
-    ∷ (readLine (answer 0 2 31) (0 ∷ 255 ∷ []), "0 2 31 00ff")
-    ∷ (readLine (answer 0 0 1) [], "0 0 1 -")
-    ∷ []
-
-answers-written : map (λ (x : List ℕ × String). x .0) answers ≡ map (λ (x : List ℕ × String). ascii (x .1)) answers
-unfolding answers digitsOf decimal
-answers-written = refl

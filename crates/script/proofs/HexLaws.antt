@@ -12,7 +12,7 @@ use lib.Seq.{set-append-seam, drop-drop}
 use lib.Dec.{leb}
 use borrow.Author.Tests.{leb-true, le-leb, lt-leb}
 use Rattle.lists.specs.Lists.{if_then_else_}
-use Rattle.script.specs.Ascii.{ascii}
+use Rattle.answers.specs.Ascii.{ascii}
 use Rattle.script.specs.Grammar.{isDigit, hexDigit, byte, prepend, pairs, atMost, bytes, mostBytes, same}
 use Rattle.script.specs.Promises.{pairAt, bytesOf}
 use Rattle.script.specs.Request.{padded}

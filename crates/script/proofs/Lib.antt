@@ -3,6 +3,4 @@ pub mod NumberLaws
 pub mod HexLaws
 pub mod LimitLaws
 pub mod CallLaws
-pub mod AreaLaws
-pub mod TextLaws
 pub mod Examples

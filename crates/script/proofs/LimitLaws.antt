@@ -11,7 +11,7 @@ use lib.Dec.{leb, ltb}
 use borrow.Author.Tests.{leb-true}
 use Rattle.lists.specs.Lists.{if_then_else_}
 use Rattle.plain.specs.Calls.{Call, send, read}
-use Rattle.script.specs.Ascii.{ascii}
+use Rattle.answers.specs.Ascii.{ascii}
 use Rattle.script.specs.Grammar.{longestLine, largestRoom, mostBytes, words, same, number, pairs, atMost, bytes, alone, reading, numbered, message, sentence, call}
 use Rattle.script.specs.Request.{requestOf}
 

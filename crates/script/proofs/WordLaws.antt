@@ -12,7 +12,7 @@ use lib.Seq.{drop-cons, take-all}
 use lib.Dec.{eqb}
 use borrow.Author.Tests.{eq-eqb, ne-eqb}
 use Rattle.lists.specs.Lists.{if_then_else_}
-use Rattle.script.specs.Ascii.{space}
+use Rattle.answers.specs.Ascii.{space}
 use Rattle.script.specs.Grammar.{begin, words, same}
 use Rattle.script.specs.Promises.{firstSpace}
 

@@ -9,7 +9,7 @@ use lib.ListN.{length}
 use lib.Dec.{ltb, leb, eqb}
 use Rattle.lists.specs.Lists.{if_then_else_}
 use Rattle.plain.specs.Calls.{Call, create, stop, end, yield, class, tick, send, receive, read, release, signal, wait}
-use Rattle.script.specs.Ascii.{ascii, space}
+use Rattle.answers.specs.Ascii.{ascii, space}
 
 -- ---- limits
 

@@ -4,13 +4,12 @@ use Prim.Native.Nat.{ℕ, suc}
 use mathlib.Core.Bool.{Bool, true, false}
 use mathlib.Core.List.{List, [], _∷_}
 use mathlib.Core.Option.{Option, none, some}
-use lib.ListN.{length, drop}
+use lib.ListN.{length}
 use lib.Dec.{eqb}
 use Rattle.lists.specs.Lists.{if_then_else_}
-use Rattle.script.specs.Ascii.{ascii, space}
+use Rattle.answers.specs.Ascii.{space}
 use Rattle.script.specs.Grammar.{upTo, digits, highestNumber, byte, hexDigit}
 use Rattle.script.specs.Request.{padded}
-use Rattle.script.specs.declared.text.Text.{Text}
 use Rattle.script.specs.declared.numbers.Number.{Number}
 use Rattle.script.specs.declared.numbers.Number.the-variants.{Is, Bad}
 use Rattle.script.specs.declared.hex.Bytes.{Bytes}
@@ -41,18 +40,3 @@ noBytes good = record { good = good; bytes = padded []; length = 0 }
 abbrev pub bytesOf : Option (List ℕ) → Bytes
 bytesOf none = noBytes false
 bytesOf (some b) = record { good = true; bytes = padded b; length = length b }
-
--- ---- text made from its end
-
--- three numbers of ten digits, three spaces and a dash
-abbrev pub textRoom : ℕ
-textRoom = 34
-
--- what stands in it
-abbrev pub shown : Text → List ℕ
-shown t = drop (t .at) (t .bytes)
-
--- what a read line has before the pairs
-abbrev pub beforePairs : Bool → List ℕ
-beforePairs true = ascii " -"
-beforePairs false = ascii " "

@@ -1,0 +1,3 @@
+pub mod AreaLaws
+pub mod TextLaws
+pub mod Examples

@@ -1,0 +1,4 @@
+pub mod Ascii
+pub mod Answer
+pub mod Written
+pub mod Promises

@@ -1,0 +1,97 @@
+-- The tests of what lies where a process waits, and of its hand: what each answer says.
+-- Assumes nothing.
+use Prim.Native.Nat.{ℕ, _+_, _-_, _≤_, _<_}
+use mathlib.Core.Bool.{Bool, true, false, not, true≢false}
+use mathlib.Core.List.{List, map}
+use mathlib.Core.Logic.{_≢_, ⊎-elim}
+use mathlib.Core.Path.{_≡_, refl, sym, ap, _∙_, subst}
+use native.Mathlib.Omega.{arith}
+use lib.Dec.{ltb, leb, eqb}
+use lib.ListN.{getD}
+use borrow.Author.Tests.{leb-true, leb-false, eqb-true, eqb-false, lt-ltb, le-ltb}
+use Rattle.lists.proofs.Laws.{same?}
+use Rattle.bits.specs.Word.{bits}
+use Rattle.rings.proofs.Units.{entry}
+use Rattle.rings.specs.Walk.{Says}
+use Rattle.rings.proofs.Decisions.{says}
+use Rattle.boxes.specs.Box.{num}
+use Rattle.boxes.specs.declared.Bid.{Bid}
+use Rattle.plain.specs.Sizes.{processes}
+use Rattle.waits.specs.Waits.{HandFits, LyingFits, WaitFits, AllFit, isHolding}
+
+-- ---- a hand
+
+module _ (place : ℕ) (runs : Bool) where
+  pub hand-nowhere : place ≡ 0 → Says runs (HandFits place runs)
+  hand-nowhere e = says runs (λ r. record { used = λ z. r; no-mailbox = λ m h d. omega arith }) (λ r f. true≢false (sym (f .used e) ∙ r))
+
+  pub hand-ready : place ≢ 0 → place < 6 → HandFits place runs
+  hand-ready d h = record { used = λ z. absurd (d z); no-mailbox = λ m b e. omega arith }
+
+  pub hand-waiting : 6 ≤ place → Says (leb 22 place) (HandFits place runs)
+  hand-waiting h = says (leb 22 place)
+      (λ r. let up = leb-true 22 place r in record { used = λ z. absurd (omega arith); no-mailbox = λ m b e. omega arith })
+      (λ r f. let down = leb-false 22 place r in f .no-mailbox (place - 6) (omega arith) (omega arith))
+
+-- ---- what lies where one waits
+
+module _ (place : ℕ) (holding : ℕ → Bool) (count : ℕ → ℕ) where
+  lies : (b : Bool) → not b ≡ false → Says b (LyingFits place holding count) → LyingFits place holding count
+  lies true e s = s
+  lies false e s = absurd (true≢false e)
+
+  pub lying-ready : place < 6 → LyingFits place holding count
+  lying-ready h = record { at-mailbox = λ m b e. absurd (omega arith); at-semaphore = λ i b e. absurd (omega arith) }
+
+  pub lying-beyond : 38 ≤ place → LyingFits place holding count
+  lying-beyond h = record { at-mailbox = λ m b e. absurd (omega arith); at-semaphore = λ i b e. absurd (omega arith) }
+
+  pub lying-mailbox : (x : ℕ) → 6 ≤ place → place < 22 → holding (place - 6) ≡ ltb x 32 → Says (leb 32 x) (LyingFits place holding count)
+  lying-mailbox x h h′ is = says (leb 32 x)
+      (λ r. record {
+        at-mailbox = λ m b e. subst (λ (y : ℕ). holding y ≡ false) (omega arith) (is ∙ le-ltb x 32 (leb-true 32 x r));
+        at-semaphore = λ i b e. absurd (omega arith);
+      })
+      (λ r f. true≢false (sym (is ∙ lt-ltb x 32 (leb-false 32 x r)) ∙ f .at-mailbox (place - 6) (omega arith) (omega arith)))
+
+  pub lying-semaphore : (n : ℕ) → 22 ≤ place → place < 38 → count (place - 22) ≡ n → Says (eqb n 0) (LyingFits place holding count)
+  lying-semaphore n h h′ is = says (eqb n 0)
+      (λ r. record {
+        at-mailbox = λ m b e. absurd (omega arith);
+        at-semaphore = λ i b e. subst (λ (y : ℕ). count y ≡ 0) (omega arith) (is ∙ eqb-true n 0 r);
+      })
+      (λ r f. eqb-false n 0 r (sym is ∙ f .at-semaphore (place - 22) (omega arith) (omega arith)))
+
+-- ---- both, of one process and of all
+
+module _ (place : ℕ) (runs full : Bool) (holding : ℕ → Bool) (count : ℕ → ℕ) where
+  pub waits-not : (b : Bool) → not b ≡ true → Says b (LyingFits place holding count) → WaitFits place runs full holding count → ⊥
+  waits-not true e s f = true≢false (sym e)
+  waits-not false e s f = s (f .lying)
+
+  pub waits-full : (b r : Bool) → not b ≡ false → Says b (LyingFits place holding count) → full ≡ true → Says r (HandFits place runs) → Says r (WaitFits place runs full holding count)
+  waits-full b true e s f h = record { hand = λ g. h; lying = lies place holding count b e s }
+  waits-full b false e s f h = λ w. h (w .hand f)
+
+  pub waits-empty : (b : Bool) → not b ≡ false → Says b (LyingFits place holding count) → full ≡ false → WaitFits place runs full holding count
+  waits-empty b e s f = record { hand = λ g. absurd (true≢false (sym g ∙ f)); lying = lies place holding count b e s }
+
+-- the processes below p fit
+abbrev pub Below : List ℕ → ℕ → ℕ → List ℕ → List ℕ → ℕ → Type 0
+Below at running full next count p = (q : ℕ) → 1 ≤ q → q < p → WaitFits (getD at q 0) (eqb q running) (bits full q) (isHolding next) (λ i. getD count i 0)
+
+module _ (at : List ℕ) (running full : ℕ) (next count : List ℕ) where
+  abbrev Fits : ℕ → Type 0
+  Fits p = WaitFits (getD at p 0) (eqb p running) (bits full p) (isHolding next) (λ i. getD count i 0)
+
+  pub one-more : (p : ℕ) (b : Bool) → not b ≡ false → Says b (Fits p) → Below at running full next count p → Below at running full next count (p + 1)
+  one-more p true e s f q h h′ = ⊎-elim (λ d. subst Fits (sym d) s) (λ d. f q h (omega arith)) (same? q p)
+  one-more p false e s f q h h′ = absurd (true≢false e)
+
+  pub not-all : (p : ℕ) (b : Bool) → 1 ≤ p → p < processes → not b ≡ true → Says b (Fits p) → AllFit at running full next count → ⊥
+  not-all p true h h′ e s f = true≢false (sym e)
+  not-all p false h h′ e s f = s (f .others p h h′)
+
+-- the node after the head of the mailbox where one waits
+pub at-node : (next : List Bid) (place : ℕ) → 6 ≤ place → getD (map num next) (32 + (place - 6)) 0 ≡ num (getD next (32 + place - 6) (record { 0 = 0 }))
+at-node next place h = ap (λ (i : ℕ). getD (map num next) i 0) (omega arith) ∙ entry num (record { 0 = 0 }) refl next (32 + place - 6)

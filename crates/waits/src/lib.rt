@@ -1,0 +1,91 @@
+// Whether processes and mail fit each other: nothing lies where a process waits, and only those hold a message who may. Assumes nothing.
+ghost use mathlib.Core.Path.{_≡_};
+ghost use mathlib.Core.List.{map};
+ghost use Prim.Native.Nat.{ℕ, _≤_, _<_};
+ghost use lib.ListN.{getD};
+ghost use Rattle.bits.specs.Word.{bits};
+ghost use Rattle.boxes.specs.Box.{num};
+ghost use Rattle.rings.specs.Walk.{Says};
+ghost use Rattle.waits.specs.Waits.{HandFits, LyingFits, WaitFits, AllFit, isHolding};
+use boxes::Bid;
+
+const PROCESSES: u32 = 32;
+
+const BUFFERS: u8 = 32;
+
+// Places are 0 for none and queue number + 1: those of mailbox waiters begin here, those of semaphore waiters after them, and then there are no more.
+const AT_MAILBOXES: u8 = 6;
+
+const AT_SEMAPHORES: u8 = 22;
+
+const NO_PLACE: u8 = 38;
+
+// Whether a process with this place may have a full hand: one that runs, is ready or waits at a semaphore.
+fn may_hold(place: u8, runs: bool) -> bool
+    ensures { λ r. ⌜ Says r (HandFits place runs) ⌝ }
+{
+    if place == 0 {
+        return runs;
+    }
+    if place < AT_MAILBOXES {
+        return true;
+    }
+    AT_SEMAPHORES <= place
+}
+
+// Whether nothing lies, and nothing is counted, where a process with this place waits.
+fn lies_nothing(place: u8, next: [Bid; 48], count: [u16; 16]) -> bool
+    ensures { λ r. ⌜ Says r (LyingFits place (isHolding (map num next)) (λ i. getD count i 0)) ⌝ }
+{
+    if place < AT_MAILBOXES {
+        return true;
+    }
+    if place < AT_SEMAPHORES {
+        let m = BUFFERS as usize + place as usize - AT_MAILBOXES as usize;
+        let first = next[m];
+        return BUFFERS <= first.0;
+    }
+    if place < NO_PLACE {
+        let i = place as usize - AT_SEMAPHORES as usize;
+        return count[i] == 0;
+    }
+    true
+}
+
+// Whether a process fits what lies where it waits, and its hand its place.
+fn wait_fits(place: u8, runs: bool, full: bool, next: [Bid; 48], count: [u16; 16]) -> bool
+    ensures { λ r. ⌜ Says r (WaitFits place runs full (isHolding (map num next)) (λ i. getD count i 0)) ⌝ }
+{
+    if !lies_nothing(place, next, count) {
+        return false;
+    }
+    if full {
+        return may_hold(place, runs);
+    }
+    true
+}
+
+// Whether all of them do, and process 0 has an empty hand.
+pub fn all_fit(at: [u8; 32], running: u8, full: u32, next: [Bid; 48], count: [u16; 16]) -> bool
+    ensures { λ r. ⌜ Says r (AllFit at running full (map num next) count) ⌝ }
+{
+    if bits::has_bit(full, 0) {
+        return false;
+    }
+    let mut p: u32 = 1;
+    while p < PROCESSES {
+        let i = p as usize;
+        let place = at[i];
+        if !wait_fits(
+            place,
+            p == running as u32,
+            bits::has_bit(full, p),
+            next,
+            count,
+        ) {
+            return false;
+        }
+        p += 1;
+    }
+    true
+}
