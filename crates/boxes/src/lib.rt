@@ -3,11 +3,11 @@
 ghost use Rattle.rings.specs.Moves.{MadeFresh, JoinedRear, HasLeft, IsFirst, SaysEmpty, SaysAtLeast};
 ghost use Rattle.boxes.specs.Box.{buffers, mailboxes, tablesOf};
 
-const BUFFERS: u8 = 32;
+const BUFFERS: u8 = sizes::BUFFERS as u8;
 
-const MAILBOXES: u32 = 16;
+const MAILBOXES: u32 = sizes::MAILBOXES as u32;
 
-const NODES: usize = BUFFERS as usize + MAILBOXES as usize;
+const NODES: usize = sizes::BUFFERS + sizes::MAILBOXES;
 
 // A node of a ring: a buffer, or the head of mailbox m, at BUFFERS + m.
 pub struct Bid(pub u8);

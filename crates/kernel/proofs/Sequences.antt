@@ -20,27 +20,13 @@ use Rattle.kernel.specs.Theorems.{lendsNothing, shown, Run, toldAll}
 use Rattle.kernel.specs.declared.Answer.{Answer}
 use Rattle.kernel.specs.declared.Done.{Done}
 use Rattle.kernel.specs.declared.Kernel.{Kernel}
-use Rattle.kernel.proofs.Stored.{NoSend, step-stored, send-stored}
+use Rattle.kernel.proofs.Stored.{step-stored, send-stored, read-stored}
 use Rattle.kernel.specs.Theorems
 
 -- what a promise says of the sound state that k holds
 pub meets : {f : State → Plain.Outcome} {Later : State → Type 0} {Same : Type 0} {k : Kernel} {r : Done} → Call f Later Same k r → (s : State) → Holds k s → Sound s → Gives (f s) r × Later s
 meets (sound i h) s H S = h s H S
 meets (unsound n e a same) s H S = absurd (n (s, H, S))
-
-nothing-sent : (c : Plain.Call) → lendsNothing c ≡ true → NoSend c
-nothing-sent (create c) e = tt
-nothing-sent (stop p) e = tt
-nothing-sent end e = tt
-nothing-sent yield e = tt
-nothing-sent (class c) e = tt
-nothing-sent tick e = tt
-nothing-sent (send m b) e = true≢false (sym e)
-nothing-sent (receive m) e = tt
-nothing-sent (read room) e = tt
-nothing-sent release e = tt
-nothing-sent (signal k) e = tt
-nothing-sent (wait k) e = tt
 
 -- with a whole store 15 is not given
 pub whole-store : (store : List ℕ) (c : Plain.Call) (s : State) → length store ≡ storeSize → withStore store c s ≡ Plain.step s c
@@ -102,7 +88,7 @@ unfolding Plain.answers Plain.after
 runs s H S T Run.stop = record { answers = refl; state = H; messages = T }
 runs s H S T (Run.call {c = c} r quiet p rest) =
     let g = meets p s H S in
-    let ih = runs (Plain.step s c .next) (g .0 .next) (step-sound s S c) (step-stored _ s c (nothing-sent c quiet) T) rest in
+    let ih = runs (Plain.step s c .next) (g .0 .next) (step-sound s S c) (step-stored _ s c quiet T) rest in
     record { answers = rw (ih .answers, g .0 .answer, silent s c (perform-silent s c quiet)) refl; state = ih .state; messages = ih .messages }
 runs s H S T (Run.send {store = store} r m b later p rest) =
     let g = meets p s H S in
@@ -114,5 +100,5 @@ runs s H S T (Run.read {store = store} r room later p rest) =
     let c : Plain.Call = read (length room) in
     let g = meets p s H S in
     let same = whole-store store c s (T .long) in
-    let ih = runs (Plain.step s c .next) (rw same at (g .0 .next)) (step-sound s S c) (step-stored store s c tt T) rest in
+    let ih = runs (Plain.step s c .next) (rw same at (g .0 .next)) (step-sound s S c) (read-stored store s (length room) T) rest in
     record { answers = rw (ih .answers, g .0 .answer, g .1, same, read-shown store room s T) refl; state = ih .state; messages = ih .messages }

@@ -1,7 +1,7 @@
 -- Every message that is held stands whole in the store: kept by every call, with what a send writes.
 -- Assumes nothing.
 use Prim.Native.Nat.{ℕ, zero, suc, _+_, _*_, _≤_, _<_}
-use mathlib.Core.Bool.{false}
+use mathlib.Core.Bool.{true, false, true≢false}
 use mathlib.Core.List.{List, [], _∷_, _++_}
 use mathlib.Core.Logic.{_≢_, ⊎-elim}
 use mathlib.Core.Option.{Option, none, some}
@@ -21,6 +21,7 @@ use Rattle.plain.specs.State.{Message, State, fresh, buffersOf, inHand, held, f
 use Rattle.plain_laws.proofs.Calls.{judged}
 use Rattle.plain_laws.proofs.Refusals.{judge-cases, nonzero}
 use Rattle.kernel.specs.Promise.{written, withStore, storeAfter, inStore, StoredAll, Stored}
+use Rattle.kernel.specs.Theorems.{lendsNothing}
 use Rattle.kernel.proofs.Buffers.{anew-long, anew-there, other-kept}
 
 pub fresh-stored : (store : List ℕ) → length store ≡ storeSize → Stored store fresh
@@ -62,22 +63,8 @@ module _ (store : List ℕ) (s : State) (k : Stored store s) where
   lowered i zero = moved (Plain.lower i zero s .next) refl refl
   lowered i (suc n) = moved (Plain.lower i (suc n) s .next) refl refl
 
--- a call that is no send
-abbrev pub NoSend : Plain.Call → Type 0
-NoSend (create c) = Unit {0}
-NoSend (stop p) = Unit {0}
-NoSend end = Unit {0}
-NoSend yield = Unit {0}
-NoSend (class c) = Unit {0}
-NoSend tick = Unit {0}
-NoSend (send m b) = ⊥
-NoSend (receive m) = Unit {0}
-NoSend (read room) = Unit {0}
-NoSend release = Unit {0}
-NoSend (signal k) = Unit {0}
-NoSend (wait k) = Unit {0}
-
-performed : (store : List ℕ) (s : State) (c : Plain.Call) → NoSend c → Stored store s → Stored store (Plain.perform s c .next)
+-- a call that is lent nothing
+performed : (store : List ℕ) (s : State) (c : Plain.Call) → lendsNothing c ≡ true → Stored store s → Stored store (Plain.perform s c .next)
 unfolding Plain.perform
 performed store s (create c) n k = moved store s k _ refl refl
 performed store s (stop p) n k = let-go store s k p _ refl refl
@@ -85,16 +72,20 @@ performed store s end n k = let-go store s k (Plain.caller s) _ refl refl
 performed store s yield n k = moved store s k _ refl refl
 performed store s (class c) n k = moved store s k _ refl refl
 performed store s tick n k = moved store s k _ refl refl
-performed store s (send m b) n k = absurd n
+performed store s (send m b) n k = absurd (true≢false (sym n))
 performed store s (receive m) n k = fetched store s k m (s .box m) refl
-performed store s (read room) n k = k
+performed store s (read room) n k = absurd (true≢false (sym n))
 performed store s release n k = let-go store s k (Plain.caller s) _ refl refl
 performed store s (signal i) n k = woken store s k i (s .procs .queue (atSemaphore i))
 performed store s (wait i) n k = lowered store s k i (s .count i)
 
-pub step-stored : (store : List ℕ) (s : State) (c : Plain.Call) → NoSend c → Stored store s → Stored store (Plain.step s c .next)
+pub step-stored : (store : List ℕ) (s : State) (c : Plain.Call) → lendsNothing c ≡ true → Stored store s → Stored store (Plain.step s c .next)
 unfolding Plain.step
 step-stored store s c n k = judged (Stored store) (Plain.refusals s c) s (Plain.perform s c) k (λ p. performed store s c n k)
+
+pub read-stored : (store : List ℕ) (s : State) (room : ℕ) → Stored store s → Stored store (Plain.step s (read room) .next)
+unfolding Plain.step Plain.perform
+read-stored store s room k = judged (Stored store) (Plain.refusals s (read room)) s (Plain.perform s (read room)) k (λ p. k)
 
 -- ---- a send
 

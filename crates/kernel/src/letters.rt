@@ -16,20 +16,14 @@ use crate::says;
 use boxes::Bid;
 use mail::Mail;
 
-const PROCESSES: u8 = 32;
+const PROCESSES: u8 = sizes::PROCESSES as u8;
 
-const MAILBOXES: u32 = 16;
+const MAILBOXES: u32 = sizes::MAILBOXES as u32;
 
-const BUFFERS: u32 = 32;
+const BUFFERS: u32 = sizes::BUFFERS as u32;
 
 // The queue of the waiters at mailbox 0.
-const FIRST_QUEUE: u32 = 5;
-
-const BUFFER_SIZE: usize = 512;
-
-const STORE_SIZE: usize = 16384;
-
-const LONGEST: usize = 512;
+const FIRST_QUEUE: u32 = sizes::AT_MAILBOXES as u32;
 
 // All of src goes into dst from at on, and no other byte changes.
 fn copy_to(dst: &mut [u8], at: usize, src: &[u8])
@@ -73,13 +67,13 @@ impl Kernel {
         if !self.is_sound() {
             return says(14);
         }
-        if held != STORE_SIZE {
+        if held != sizes::STORE_SIZE {
             return says(15);
         }
         if MAILBOXES <= m {
             return says(3);
         }
-        if LONGEST < n {
+        if sizes::LONGEST < n {
             return says(6);
         }
         let mail = self.mail;
@@ -101,7 +95,7 @@ impl Kernel {
         }
         let mail = self.mail;
         let b = mail.lowest_free();
-        copy_to(store, BUFFER_SIZE * b as usize, message);
+        copy_to(store, sizes::BUFFER_SIZE * b as usize, message);
         self.delivered(m, Bid((b % 256) as u8), (message.len() % 65536) as u16)
             .answer(0, 0)
     }
@@ -173,7 +167,7 @@ impl Kernel {
         if v.code == 14 {
             return v;
         }
-        if held != STORE_SIZE {
+        if held != sizes::STORE_SIZE {
             return says(15);
         }
         if v.code != 0 {
@@ -197,7 +191,7 @@ impl Kernel {
         let mail = self.mail;
         let b = mail.in_hand(self.runner());
         let n = mail.length_in_hand(self.runner());
-        let from = BUFFER_SIZE * b.0 as usize;
+        let from = sizes::BUFFER_SIZE * b.0 as usize;
         let to = from + n as usize;
         copy_to(room, 0, &store[from..to]);
         self.answer(0, n)

@@ -19,7 +19,7 @@ pub struct Kernel {
     pub procs: Procs,
     pub unused: u32,
     pub mail: Mail,
-    pub count: [u16; 16],
+    pub count: [u16; sizes::SEMAPHORES],
 }
 
 #[repr(C)]
@@ -55,7 +55,7 @@ impl Kernel {
     {
         let procs = Procs::fresh();
         let mail = Mail::fresh();
-        let count = [0u16; 16];
+        let count = [0u16; sizes::SEMAPHORES];
         Kernel {
             procs,
             unused: ALL_BUT_0,

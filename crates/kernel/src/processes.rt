@@ -15,9 +15,9 @@ use crate::says;
 use procs::Procs;
 use queues::Pid;
 
-const PROCESSES: u32 = 32;
+const PROCESSES: u32 = sizes::PROCESSES as u32;
 
-const CLASSES: u32 = 5;
+const CLASSES: u32 = sizes::CLASSES as u32;
 
 impl Kernel {
     // p, who is unused, becomes a process of a class and is made ready.

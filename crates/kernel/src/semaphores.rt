@@ -12,16 +12,16 @@ use crate::Kernel;
 use crate::Verdict;
 use crate::says;
 
-const PROCESSES: u8 = 32;
+const PROCESSES: u8 = sizes::PROCESSES as u8;
 
-const SEMAPHORES: u32 = 16;
+const SEMAPHORES: u32 = sizes::SEMAPHORES as u32;
 
 // The queue of the waiters at semaphore 0.
-const FIRST_QUEUE: u32 = 21;
+const FIRST_QUEUE: u32 = sizes::AT_SEMAPHORES as u32;
 
-const HIGHEST_COUNT: u32 = 65535;
+const HIGHEST_COUNT: u32 = sizes::HIGHEST_COUNT as u32;
 
-fn count_of(t: [u16; 16], i: u32) -> u32
+fn count_of(t: [u16; sizes::SEMAPHORES], i: u32) -> u32
     ensures { λ r. ⌜ r ≡ getD t i 0 ⌝ }
 {
     if i < SEMAPHORES {
@@ -32,7 +32,7 @@ fn count_of(t: [u16; 16], i: u32) -> u32
     }
 }
 
-fn with_count(mut t: [u16; 16], i: u32, n: u16) -> [u16; 16]
+fn with_count(mut t: [u16; sizes::SEMAPHORES], i: u32, n: u16) -> [u16; sizes::SEMAPHORES]
     ensures { λ r. ⌜ r ≡ set t i n ⌝ }
 {
     if i < SEMAPHORES {

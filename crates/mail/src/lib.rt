@@ -9,26 +9,25 @@ ghost use Rattle.mail.specs.Moves.{lowestFree, isFullBox, isEmptyBox, ha
 use boxes::Bid;
 use boxes::Boxes;
 
-const PROCESSES: u32 = 32;
+const PROCESSES: u32 = sizes::PROCESSES as u32;
 
-const BUFFERS: u8 = 32;
+const BUFFERS: u8 = sizes::BUFFERS as u8;
 
-// Messages that a mailbox holds at most.
-const CAPACITY: u32 = 8;
+const CAPACITY: u32 = sizes::CAPACITY as u32;
 
 // A bit for each buffer.
 const ALL: u32 = 4294967295;
 
 pub struct Mail {
     pub boxes: Boxes,
-    pub hand: [Bid; 32],
+    pub hand: [Bid; sizes::PROCESSES],
     pub full: u32,
-    pub length: [u16; 32],
+    pub length: [u16; sizes::BUFFERS],
     pub free: u32,
 }
 
 // The buffer in the hand of p, or 0 past the last hand.
-fn hand_of(hands: [Bid; 32], p: u32) -> Bid
+fn hand_of(hands: [Bid; sizes::PROCESSES], p: u32) -> Bid
     ensures { λ r. ⌜ r .0 ≡ getD (map num hands) p 0 ⌝ }
 {
     if p < PROCESSES {
@@ -39,7 +38,7 @@ fn hand_of(hands: [Bid; 32], p: u32) -> Bid
 }
 
 // The hands with b in that of p, or as they are past the last hand.
-fn with_hand(mut hands: [Bid; 32], p: u32, b: Bid) -> [Bid; 32]
+fn with_hand(mut hands: [Bid; sizes::PROCESSES], p: u32, b: Bid) -> [Bid; sizes::PROCESSES]
     ensures { λ r. ⌜ map num r ≡ set (map num hands) p (b .0) ⌝ }
 {
     if p < PROCESSES {
@@ -51,7 +50,7 @@ fn with_hand(mut hands: [Bid; 32], p: u32, b: Bid) -> [Bid; 32]
 }
 
 // The length of the message in b, or 0 past the last buffer.
-fn length_of(lengths: [u16; 32], b: Bid) -> u32
+fn length_of(lengths: [u16; sizes::BUFFERS], b: Bid) -> u32
     ensures { λ r. ⌜ r ≡ getD lengths (b .0) 0 ⌝ }
 {
     if b.0 < BUFFERS {
@@ -62,7 +61,7 @@ fn length_of(lengths: [u16; 32], b: Bid) -> u32
 }
 
 // The lengths with n at b, or as they are past the last buffer.
-fn with_length(mut lengths: [u16; 32], b: Bid, n: u16) -> [u16; 32]
+fn with_length(mut lengths: [u16; sizes::BUFFERS], b: Bid, n: u16) -> [u16; sizes::BUFFERS]
     ensures { λ r. ⌜ r ≡ set lengths (b .0) n ⌝ }
 {
     if b.0 < BUFFERS {
@@ -79,8 +78,8 @@ impl Mail {
         ensures { λ r. ⌜ numbers r ≡ freshMail ⌝ }
     {
         let boxes = Boxes::fresh();
-        let hand = [Bid(0); 32];
-        let length = [0u16; 32];
+        let hand = [Bid(0); sizes::PROCESSES];
+        let length = [0u16; sizes::BUFFERS];
         Mail {
             boxes,
             hand,

@@ -8,22 +8,22 @@ ghost use Rattle.procs.specs.Moves.{fresh, runs, ranked, timed, requeued
 use queues::Pid;
 use queues::Queues;
 
-const PROCESSES: u8 = 32;
+const PROCESSES: u8 = sizes::PROCESSES as u8;
 
-const CLASSES: u32 = 5;
+const CLASSES: u32 = sizes::CLASSES as u32;
 
-const SLICE: u8 = 3;
+const SLICE: u8 = sizes::SLICE as u8;
 
 pub struct Procs {
     pub running: Pid,
-    pub class: [u8; 32],
-    pub ticks: [u8; 32],
+    pub class: [u8; sizes::PROCESSES],
+    pub ticks: [u8; sizes::PROCESSES],
     pub queues: Queues,
     pub ready: u32,
 }
 
 // What a table, of classes or of ticks, has for p; 0 where p is no process.
-pub fn entry(t: [u8; 32], p: Pid) -> u8
+pub fn entry(t: [u8; sizes::PROCESSES], p: Pid) -> u8
     ensures { λ r. ⌜ r ≡ getD t (p .0) 0 ⌝ }
 {
     if p.0 >= PROCESSES {
@@ -34,7 +34,7 @@ pub fn entry(t: [u8; 32], p: Pid) -> u8
 }
 
 // The table with v for p.
-fn with_entry(mut t: [u8; 32], p: Pid, v: u8) -> [u8; 32]
+fn with_entry(mut t: [u8; sizes::PROCESSES], p: Pid, v: u8) -> [u8; sizes::PROCESSES]
     ensures { λ r. ⌜ r ≡ set t (p .0) v ⌝ }
 {
     if p.0 < PROCESSES {
@@ -49,7 +49,7 @@ impl Procs {
     pub fn fresh() -> Procs
         ensures { λ r. ⌜ numbers r ≡ fresh ⌝ }
     {
-        let zeros = [0u8; 32];
+        let zeros = [0u8; sizes::PROCESSES];
         let empty = Queues::fresh();
         Procs {
             running: Pid(0),

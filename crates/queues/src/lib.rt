@@ -3,11 +3,11 @@
 ghost use Rattle.rings.specs.Moves.{MadeFresh, JoinedRear, JoinedFront, HasLeft, IsFirst, SaysEmpty};
 ghost use Rattle.queues.specs.Queue.{processes, queues, tablesOf};
 
-const PROCESSES: u8 = 32;
+const PROCESSES: u8 = sizes::PROCESSES as u8;
 
-const QUEUES: u32 = 37;
+const QUEUES: u32 = sizes::QUEUES as u32;
 
-const NODES: usize = PROCESSES as usize + QUEUES as usize;
+const NODES: usize = sizes::PROCESSES + sizes::QUEUES;
 
 // A node of a ring: a process, or the head of queue q, at PROCESSES + q.
 pub struct Pid(pub u8);

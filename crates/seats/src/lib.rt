@@ -15,14 +15,13 @@ use procs::Procs;
 use queues::Pid;
 use queues::Queues;
 use rings::Places;
+use sizes::PROCESSES;
 
-const PROCESSES: usize = 32;
+const CLASSES: u8 = sizes::CLASSES as u8;
 
-const CLASSES: u8 = 5;
+const SLICE: u8 = sizes::SLICE as u8;
 
-const SLICE: u8 = 3;
-
-const NODES: usize = 69;
+const NODES: usize = sizes::PROCESSES + sizes::QUEUES;
 
 // The links as bytes.
 fn bytes_of(links: [Pid; NODES]) -> [u8; NODES]

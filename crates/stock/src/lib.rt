@@ -5,6 +5,8 @@ use boxes::Bid;
 use boxes::Boxes;
 use mail::Mail;
 use rings::Places;
+use sizes::BUFFERS;
+use sizes::PROCESSES;
 ghost use mathlib.Core.Path.{_≡_};
 ghost use mathlib.Core.List.{map};
 ghost use Rattle.rings.specs.Walk.{Says};
@@ -13,20 +15,16 @@ ghost use Rattle.mail.specs.Carries.{numbers};
 ghost use Rattle.stock.specs.Stock.{Answer};
 ghost use Rattle.stock.specs.Tests.{AllBuffers, BufferFits, Few, Grasped, Handed, Queued};
 
-const PROCESSES: usize = 32;
+const MAILBOXES: u32 = sizes::MAILBOXES as u32;
 
-const MAILBOXES: u32 = 16;
+const CAPACITY: u32 = sizes::CAPACITY as u32;
 
-const CAPACITY: u32 = 8;
+const NODES: usize = sizes::BUFFERS + sizes::MAILBOXES;
 
-const BUFFERS: usize = 32;
-
-const NODES: usize = 48;
-
-const LONGEST: u16 = 512;
+const LONGEST: u16 = sizes::LONGEST as u16;
 
 // The place of a buffer in a hand. Elsewhere it is 0 for nowhere, m + 1 for mailbox m.
-const IN_HAND: u8 = 17;
+const IN_HAND: u8 = sizes::MAILBOXES as u8 + 1;
 
 // The numbers in a table of links.
 fn bytes(links: [Bid; NODES]) -> [u8; NODES]

@@ -9,16 +9,18 @@ ghost use Rattle.rings.specs.Walk.{Says};
 ghost use Rattle.waits.specs.Waits.{HandFits, LyingFits, WaitFits, AllFit, isHolding};
 use boxes::Bid;
 
-const PROCESSES: u32 = 32;
+const PROCESSES: u32 = sizes::PROCESSES as u32;
 
-const BUFFERS: u8 = 32;
+const BUFFERS: u8 = sizes::BUFFERS as u8;
 
 // Places are 0 for none and queue number + 1: those of mailbox waiters begin here, those of semaphore waiters after them, and then there are no more.
-const AT_MAILBOXES: u8 = 6;
+const AT_MAILBOXES: u8 = sizes::AT_MAILBOXES as u8 + 1;
 
-const AT_SEMAPHORES: u8 = 22;
+const AT_SEMAPHORES: u8 = sizes::AT_SEMAPHORES as u8 + 1;
 
-const NO_PLACE: u8 = 38;
+const NO_PLACE: u8 = sizes::QUEUES as u8 + 1;
+
+const NODES: usize = sizes::BUFFERS + sizes::MAILBOXES;
 
 // Whether a process with this place may have a full hand: one that runs, is ready or waits at a semaphore.
 fn may_hold(place: u8, runs: bool) -> bool
@@ -34,7 +36,7 @@ fn may_hold(place: u8, runs: bool) -> bool
 }
 
 // Whether nothing lies, and nothing is counted, where a process with this place waits.
-fn lies_nothing(place: u8, next: [Bid; 48], count: [u16; 16]) -> bool
+fn lies_nothing(place: u8, next: [Bid; NODES], count: [u16; sizes::SEMAPHORES]) -> bool
     ensures { λ r. ⌜ Says r (LyingFits place (isHolding (map num next)) (λ i. getD count i 0)) ⌝ }
 {
     if place < AT_MAILBOXES {
@@ -53,7 +55,13 @@ fn lies_nothing(place: u8, next: [Bid; 48], count: [u16; 16]) -> bool
 }
 
 // Whether a process fits what lies where it waits, and its hand its place.
-fn wait_fits(place: u8, runs: bool, full: bool, next: [Bid; 48], count: [u16; 16]) -> bool
+fn wait_fits(
+    place: u8,
+    runs: bool,
+    full: bool,
+    next: [Bid; NODES],
+    count: [u16; sizes::SEMAPHORES],
+) -> bool
     ensures { λ r. ⌜ Says r (WaitFits place runs full (isHolding (map num next)) (λ i. getD count i 0)) ⌝ }
 {
     if !lies_nothing(place, next, count) {
@@ -66,7 +74,13 @@ fn wait_fits(place: u8, runs: bool, full: bool, next: [Bid; 48], count: [u16; 16
 }
 
 // Whether all of them do, and process 0 has an empty hand.
-pub fn all_fit(at: [u8; 32], running: u8, full: u32, next: [Bid; 48], count: [u16; 16]) -> bool
+pub fn all_fit(
+    at: [u8; sizes::PROCESSES],
+    running: u8,
+    full: u32,
+    next: [Bid; NODES],
+    count: [u16; sizes::SEMAPHORES],
+) -> bool
     ensures { λ r. ⌜ Says r (AllFit at running full (map num next) count) ⌝ }
 {
     if bits::has_bit(full, 0) {

@@ -1,0 +1,33 @@
+// The sizes of document 01 as the code has them, each named once. The definitions have their own in crates/plain/specs/Sizes.antt, and the proofs hold the two together. Assumes nothing.
+
+pub const PROCESSES: usize = 32;
+
+pub const CLASSES: usize = 5;
+
+pub const MAILBOXES: usize = 16;
+
+// Messages that a mailbox holds at most.
+pub const CAPACITY: usize = 8;
+
+pub const BUFFERS: usize = 32;
+
+pub const BUFFER_SIZE: usize = 512;
+
+pub const STORE_SIZE: usize = BUFFERS * BUFFER_SIZE;
+
+// Bytes of a message at most.
+pub const LONGEST: usize = BUFFER_SIZE;
+
+pub const SEMAPHORES: usize = 16;
+
+pub const HIGHEST_COUNT: usize = 65535;
+
+// Ticks of a full slice.
+pub const SLICE: usize = 3;
+
+// The queues of processes: the ready ones of class c are queue c; then come the waiters at the mailboxes, then those at the semaphores.
+pub const AT_MAILBOXES: usize = CLASSES;
+
+pub const AT_SEMAPHORES: usize = CLASSES + MAILBOXES;
+
+pub const QUEUES: usize = CLASSES + MAILBOXES + SEMAPHORES;
