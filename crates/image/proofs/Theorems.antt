@@ -15,7 +15,7 @@ pub one-to-one : OneToOne
 one-to-one = record { long = image-code .long; bytes = image-code .bytes; one = image-code .one; every = image-code .every }
 
 -- what follows from one length and from any other follows
-by-length : (area : List ℕ) (P : Type 0) → (length area ≡ size → P) → ((length area ≡ size → ⊥) → P) → P
+pub by-length : (area : List ℕ) (P : Type 0) → (length area ≡ size → P) → ((length area ≡ size → ⊥) → P) → P
 by-length area P is other = go (eqb (length area) size) refl
   where
     go : (t : Bool) → eqb (length area) size ≡ t → P

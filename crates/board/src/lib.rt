@@ -1,0 +1,141 @@
+// The calls as the board's firmware makes them: numbers and lent areas of bytes in, an answer out.
+// Each reads the image that lies in the state area, makes the kernel's call and writes the next image back.
+ghost use Rattle.plain.specs.Calls as Plain;
+ghost use Rattle.board.specs.Area.{Plainly, Sends, Reads, Begins, HandedBack};
+use kernel::Answer;
+use kernel::Done;
+use kernel::Kernel;
+
+const SIZE: usize = 443;
+
+// The image of the next state goes into the area, the answer to the caller.
+fn hand_back(state: &mut [u8], done: Done) -> Answer
+    ensures { λ r. ⌜ HandedBack done (now (state .entry)) (now (state .exit)) r ⌝ }
+{
+    let next = done.state;
+    image::write(state, next);
+    let answer = done.answer;
+    answer
+}
+
+// The area becomes the image of a fresh kernel; one of another length stays as it is.
+#[no_mangle]
+pub extern "C" fn csengadrul_fresh(state: &mut [u8]) -> Answer
+    ensures { λ r. ⌜ Begins (now (state .entry)) (now (state .exit)) r ⌝ }
+{
+    if state.len() != SIZE {
+        return Answer {
+            code: 14,
+            number: 0,
+            running: 0,
+        };
+    }
+    image::write(state, Kernel::fresh());
+    Answer {
+        code: 0,
+        number: 0,
+        running: 0,
+    }
+}
+
+#[no_mangle]
+pub extern "C" fn csengadrul_create(state: &mut [u8], class: u32) -> Answer
+    ensures { λ r. ⌜ Plainly (Plain.create class) (now (state .entry)) (now (state .exit)) r ⌝ }
+{
+    let done = image::read(state).create(class);
+    hand_back(state, done)
+}
+
+#[no_mangle]
+pub extern "C" fn csengadrul_stop(state: &mut [u8], process: u32) -> Answer
+    ensures { λ r. ⌜ Plainly (Plain.stop process) (now (state .entry)) (now (state .exit)) r ⌝ }
+{
+    let done = image::read(state).stop(process);
+    hand_back(state, done)
+}
+
+#[no_mangle]
+pub extern "C" fn csengadrul_end(state: &mut [u8]) -> Answer
+    ensures { λ r. ⌜ Plainly Plain.end (now (state .entry)) (now (state .exit)) r ⌝ }
+{
+    let done = image::read(state).end();
+    hand_back(state, done)
+}
+
+#[no_mangle]
+pub extern "C" fn csengadrul_yield(state: &mut [u8]) -> Answer
+    ensures { λ r. ⌜ Plainly Plain.yield (now (state .entry)) (now (state .exit)) r ⌝ }
+{
+    let done = image::read(state).yield_now();
+    hand_back(state, done)
+}
+
+#[no_mangle]
+pub extern "C" fn csengadrul_class(state: &mut [u8], class: u32) -> Answer
+    ensures { λ r. ⌜ Plainly (Plain.class class) (now (state .entry)) (now (state .exit)) r ⌝ }
+{
+    let done = image::read(state).class(class);
+    hand_back(state, done)
+}
+
+#[no_mangle]
+pub extern "C" fn csengadrul_tick(state: &mut [u8]) -> Answer
+    ensures { λ r. ⌜ Plainly Plain.tick (now (state .entry)) (now (state .exit)) r ⌝ }
+{
+    let done = image::read(state).tick();
+    hand_back(state, done)
+}
+
+#[no_mangle]
+pub extern "C" fn csengadrul_send(
+    state: &mut [u8],
+    store: &mut [u8],
+    mailbox: u32,
+    message: &[u8],
+) -> Answer
+    ensures { λ r. ⌜ Sends (now (store .entry)) mailbox (now (message .entry)) (now (store .exit)) (now (state .entry)) (now (state .exit)) r ⌝ }
+{
+    let done = image::read(state).send(store, mailbox, message);
+    hand_back(state, done)
+}
+
+#[no_mangle]
+pub extern "C" fn csengadrul_receive(state: &mut [u8], mailbox: u32) -> Answer
+    ensures { λ r. ⌜ Plainly (Plain.receive mailbox) (now (state .entry)) (now (state .exit)) r ⌝ }
+{
+    let done = image::read(state).receive(mailbox);
+    hand_back(state, done)
+}
+
+#[no_mangle]
+pub extern "C" fn csengadrul_read(state: &[u8], store: &[u8], room: &mut [u8]) -> Answer
+    ensures { λ r. ⌜ Reads (now (store .entry)) (now (room .entry)) (now (room .exit)) (now (state .entry)) r ⌝ }
+{
+    let done = image::read(state).read(store, room);
+    let told = done.answer;
+    told
+}
+
+#[no_mangle]
+pub extern "C" fn csengadrul_release(state: &mut [u8]) -> Answer
+    ensures { λ r. ⌜ Plainly Plain.release (now (state .entry)) (now (state .exit)) r ⌝ }
+{
+    let done = image::read(state).release();
+    hand_back(state, done)
+}
+
+#[no_mangle]
+pub extern "C" fn csengadrul_signal(state: &mut [u8], semaphore: u32) -> Answer
+    ensures { λ r. ⌜ Plainly (Plain.signal semaphore) (now (state .entry)) (now (state .exit)) r ⌝ }
+{
+    let done = image::read(state).signal(semaphore);
+    hand_back(state, done)
+}
+
+#[no_mangle]
+pub extern "C" fn csengadrul_wait(state: &mut [u8], semaphore: u32) -> Answer
+    ensures { λ r. ⌜ Plainly (Plain.wait semaphore) (now (state .entry)) (now (state .exit)) r ⌝ }
+{
+    let done = image::read(state).wait(semaphore);
+    hand_back(state, done)
+}
