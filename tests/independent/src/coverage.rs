@@ -1,0 +1,98 @@
+//! What random scripts reached: the codes answered and the deepest states, to show that they are worth comparing.
+
+use crate::answer::*;
+use crate::desk::answer_line;
+use crate::kernel::*;
+use crate::scripts::Script;
+use std::collections::{BTreeMap, BTreeSet};
+use std::fmt;
+
+#[derive(Clone, Debug, Default)]
+pub struct Coverage {
+    pub styles: BTreeSet<&'static str>,
+    pub lines: u64,
+    pub bad_lines: u64,
+    /// How often each code was answered.
+    pub codes: BTreeMap<u32, u64>,
+    pub most_live: usize,
+    pub most_buffers: usize,
+    pub fullest_mailbox: usize,
+    pub most_waiters_at_a_mailbox: usize,
+    pub most_waiters_at_a_semaphore: usize,
+    /// After how many lines a preempted process stood at the front of its class with a part of its slice.
+    pub preempted: u64,
+    pub highest_count: u32,
+}
+
+impl Coverage {
+    /// Runs the script of a seed and adds what it reaches.
+    pub fn add(&mut self, seed: u64, lines: u64) {
+        let mut script = Script::new(seed, lines);
+        self.styles.insert(script.style());
+        let mut kernel = Kernel::fresh();
+        while let Some(line) = script.next_line() {
+            let answer = answer_line(&mut kernel, &line);
+            self.lines += 1;
+            match answer.split(' ').next().and_then(|code| code.parse().ok()) {
+                Some(code) => *self.codes.entry(code).or_default() += 1,
+                None => self.bad_lines += 1,
+            }
+            self.look_at(&kernel);
+        }
+    }
+
+    fn look_at(&mut self, kernel: &Kernel) {
+        fn raise<T: Ord + Copy>(most: &mut T, now: impl Iterator<Item = T>) {
+            *most = now.fold(*most, T::max);
+        }
+        raise(&mut self.most_live, [kernel.processes.iter().flatten().count()].into_iter());
+        raise(&mut self.most_buffers, [kernel.held().count()].into_iter());
+        raise(&mut self.fullest_mailbox, kernel.mailboxes.iter().map(|mailbox| mailbox.messages.len()));
+        raise(&mut self.most_waiters_at_a_mailbox, kernel.mailboxes.iter().map(|mailbox| mailbox.waiters.len()));
+        raise(&mut self.most_waiters_at_a_semaphore, kernel.semaphores.iter().map(|semaphore| semaphore.waiters.len()));
+        raise(&mut self.highest_count, kernel.semaphores.iter().map(|semaphore| semaphore.count));
+        let preempted = |queue: &std::collections::VecDeque<usize>| {
+            queue.len() > 1 && kernel.processes[queue[0]].as_ref().is_some_and(|process| process.ticks < SLICE)
+        };
+        self.preempted += u64::from(kernel.ready.iter().any(preempted));
+    }
+
+    /// What of all that there is to reach was not reached; empty is good.
+    pub fn missing(&self) -> Vec<String> {
+        let codes = (DONE..=COUNT_AT_LIMIT).chain([CALLER_WAITS]).filter(|code| !self.codes.contains_key(code));
+        let mut missing: Vec<String> = codes.map(|code| format!("code {code}")).collect();
+        let mut want = |reached: bool, what: &str| {
+            if !reached {
+                missing.push(what.to_string());
+            }
+        };
+        want(self.bad_lines > 0, "a bad line");
+        want(self.most_live == PROCESSES - 1, "31 live processes");
+        want(self.most_buffers == BUFFERS, "32 buffers held");
+        want(self.fullest_mailbox == MAILBOX_MESSAGES, "a mailbox with 8 messages");
+        want(self.most_waiters_at_a_mailbox >= 5, "5 waiters at a mailbox");
+        want(self.most_waiters_at_a_semaphore >= 5, "5 waiters at a semaphore");
+        want(self.preempted > 0, "a preempted process in front of others with fewer ticks than a slice");
+        want(self.highest_count == COUNT_LIMIT, "a count of 65,535");
+        missing
+    }
+}
+
+impl fmt::Display for Coverage {
+    fn fmt(&self, out: &mut fmt::Formatter) -> fmt::Result {
+        let styles: Vec<&str> = self.styles.iter().copied().collect();
+        let codes: Vec<String> = self.codes.iter().map(|(code, times)| format!("{code}:{times}")).collect();
+        writeln!(out, "{}: {} lines, {} bad, codes {}", styles.join(" "), self.lines, self.bad_lines, codes.join(" "))?;
+        write!(
+            out,
+            "  at most {} live, {} buffers, {} in a mailbox, {} waiters at a mailbox, {} at a semaphore, count {}; preempted after {} lines",
+            self.most_live,
+            self.most_buffers,
+            self.fullest_mailbox,
+            self.most_waiters_at_a_mailbox,
+            self.most_waiters_at_a_semaphore,
+            self.highest_count,
+            self.preempted
+        )
+    }
+}

@@ -1,0 +1,161 @@
+//! A state as the bytes of docs/IMAGE.md: the image of a kernel, and whether some bytes are the image of a sound state.
+
+use crate::kernel::*;
+use crate::sound::is_sound;
+use std::collections::VecDeque;
+
+pub const IMAGE_BYTES: usize = 443;
+
+// Where each field begins.
+const RUNNING: usize = 0;
+const CLASS: usize = 1;
+const TICKS: usize = 33;
+const PROCESS_NEXT: usize = 65;
+const PROCESS_BEFORE: usize = 134;
+const READY_BITS: usize = 203;
+const UNUSED_BITS: usize = 207;
+const MESSAGE_NEXT: usize = 211;
+const MESSAGE_BEFORE: usize = 259;
+const HAND: usize = 307;
+const FULL_BITS: usize = 339;
+const LENGTH: usize = 343;
+const FREE_BITS: usize = 407;
+const COUNT: usize = 411;
+
+/// In both kinds of rings the members are nodes 0 to 31, and the head of queue q is node 32 + q.
+const FIRST_HEAD: usize = 32;
+
+/// The image of a sound state.
+pub fn image(kernel: &Kernel) -> [u8; IMAGE_BYTES] {
+    let mut area = [0; IMAGE_BYTES];
+    area[RUNNING] = kernel.running as u8;
+    for (number, process) in kernel.processes.iter().enumerate() {
+        if let Some(process) = process {
+            area[CLASS + number] = process.class as u8;
+            area[TICKS + number] = process.ticks as u8;
+        }
+        if let Some(message) = kernel.hand_of(number) {
+            area[HAND + number] = message.buffer as u8;
+        }
+    }
+
+    let ready = kernel.ready.iter();
+    let at_mailboxes = kernel.mailboxes.iter().map(|mailbox| &mailbox.waiters);
+    let at_semaphores = kernel.semaphores.iter().map(|semaphore| &semaphore.waiters);
+    let process_queues = ready.chain(at_mailboxes).chain(at_semaphores);
+    write_rings(&mut area, PROCESS_NEXT, PROCESS_BEFORE, process_queues.map(|queue| queue.iter().copied().collect()).collect());
+    let message_queues = kernel.mailboxes.iter().map(|mailbox| mailbox.messages.iter().map(|message| message.buffer).collect());
+    write_rings(&mut area, MESSAGE_NEXT, MESSAGE_BEFORE, message_queues.collect());
+
+    write_bits(&mut area, READY_BITS, |class| class < CLASSES && !kernel.ready[class].is_empty());
+    write_bits(&mut area, UNUSED_BITS, |process| process != 0 && kernel.processes[process].is_none());
+    write_bits(&mut area, FULL_BITS, |process| kernel.hand_of(process).is_some());
+    write_bits(&mut area, FREE_BITS, |buffer| kernel.held().all(|message| message.buffer != buffer));
+
+    for message in kernel.held() {
+        write_two(&mut area, LENGTH + 2 * message.buffer, message.bytes.len());
+    }
+    for (number, semaphore) in kernel.semaphores.iter().enumerate() {
+        write_two(&mut area, COUNT + 2 * number, semaphore.count as usize);
+    }
+    area
+}
+
+/// The sound state whose image an area is, with zeros for the bytes of its messages; None if it is no such image.
+///
+/// The state is read from some of the fields. As a sound state has exactly one image, the area is its image only if
+/// the state read is sound and its image is this very area. That also decides all fields that were not read.
+pub fn decide(area: &[u8]) -> Option<Kernel> {
+    let area: &[u8; IMAGE_BYTES] = area.try_into().ok()?;
+    let kernel = read(area)?;
+    (is_sound(&kernel) && image(&kernel) == *area).then_some(kernel)
+}
+
+/// Gives the messages of a state their bytes from a store of 16,384 bytes.
+pub fn take_bytes(kernel: &mut Kernel, store: &[u8]) {
+    for message in kernel.held_mut() {
+        let start = BUFFER_BYTES * message.buffer;
+        let length = message.bytes.len();
+        message.bytes.copy_from_slice(&store[start..start + length]);
+    }
+}
+
+/// Puts the messages of a state where they lie in a store of 16,384 bytes; the other bytes stay.
+pub fn lay_bytes(kernel: &Kernel, store: &mut [u8]) {
+    for message in kernel.held() {
+        let start = BUFFER_BYTES * message.buffer;
+        store[start..start + message.bytes.len()].copy_from_slice(&message.bytes);
+    }
+}
+
+fn write_rings(area: &mut [u8; IMAGE_BYTES], next: usize, before: usize, queues: Vec<Vec<usize>>) {
+    let nodes = FIRST_HEAD + queues.len();
+    for node in 0..nodes {
+        area[next + node] = node as u8;
+        area[before + node] = node as u8;
+    }
+    for (number, members) in queues.into_iter().enumerate() {
+        let head = FIRST_HEAD + number;
+        let mut last = head;
+        for node in members.into_iter().chain([head]) {
+            area[next + last] = node as u8;
+            area[before + node] = last as u8;
+            last = node;
+        }
+    }
+}
+
+fn write_bits(area: &mut [u8; IMAGE_BYTES], field: usize, is_on: impl Fn(usize) -> bool) {
+    for bit in (0..32).filter(|&bit| is_on(bit)) {
+        area[field + bit / 8] |= 1 << (bit % 8);
+    }
+}
+
+fn write_two(area: &mut [u8; IMAGE_BYTES], place: usize, number: usize) {
+    area[place] = (number % 256) as u8;
+    area[place + 1] = (number / 256) as u8;
+}
+
+/// A kernel as the fields say, not yet known to be sound; None if no kernel can be read at all.
+fn read(area: &[u8; IMAGE_BYTES]) -> Option<Kernel> {
+    let bit = |field: usize, number: usize| area[field + number / 8] >> (number % 8) & 1 == 1;
+    let two = |place: usize| usize::from(area[place]) + 256 * usize::from(area[place + 1]);
+    let message = |buffer: usize| (buffer < BUFFERS).then(|| Message { buffer, bytes: vec![0; two(LENGTH + 2 * buffer)] });
+
+    let mut kernel = Kernel::fresh();
+    kernel.running = usize::from(area[RUNNING]);
+    for number in (1..PROCESSES).filter(|&number| !bit(UNUSED_BITS, number)) {
+        let hand = if bit(FULL_BITS, number) { Some(message(usize::from(area[HAND + number]))?) } else { None };
+        let class = usize::from(area[CLASS + number]);
+        let ticks = u32::from(area[TICKS + number]);
+        kernel.processes[number] = Some(Process { class, ticks, hand });
+    }
+    for class in 0..CLASSES {
+        kernel.ready[class] = ring(area, PROCESS_NEXT, class)?;
+    }
+    for number in 0..MAILBOXES {
+        let buffers = ring(area, MESSAGE_NEXT, number)?;
+        kernel.mailboxes[number].messages = buffers.into_iter().map(message).collect::<Option<_>>()?;
+        kernel.mailboxes[number].waiters = ring(area, PROCESS_NEXT, CLASSES + number)?;
+    }
+    for number in 0..SEMAPHORES {
+        kernel.semaphores[number].count = two(COUNT + 2 * number) as u32;
+        kernel.semaphores[number].waiters = ring(area, PROCESS_NEXT, CLASSES + MAILBOXES + number)?;
+    }
+    Some(kernel)
+}
+
+/// Who stands in a queue, by the table of next nodes; None if it doesn't lead back to the head over members alone.
+fn ring(area: &[u8; IMAGE_BYTES], next: usize, queue: usize) -> Option<VecDeque<usize>> {
+    let head = FIRST_HEAD + queue;
+    let mut members = VecDeque::new();
+    let mut node = usize::from(area[next + head]);
+    while node != head {
+        if node >= FIRST_HEAD || members.contains(&node) {
+            return None;
+        }
+        members.push_back(node);
+        node = usize::from(area[next + node]);
+    }
+    Some(members)
+}

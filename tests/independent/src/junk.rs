@@ -1,0 +1,137 @@
+//! Lines that are bad, or nearly: what a desk may meet besides calls. A line made here may by chance be a call after all.
+
+use crate::grammar::LINE_BYTES;
+use crate::random::Random;
+
+const NEAR_WORDS: [&str; 30] = [
+    "", " ", "-", "frob", "bad", "listing", "listing 32", "Tick", "TICK", "tic", "ticks", "tick 1", "tick -", "end 0", "yield 0",
+    "release 0", "create", "stop", "class", "receive", "read", "send", "signal", "wait", "send 0", "send 0 ", "creat 1", "creates 1",
+    "receiv 0", "#",
+];
+
+/// They wrap to a small number in 8, 16, 32 or 64 bits, or are written in another way than the paper's.
+const NEAR_NUMBERS: [&str; 24] = [
+    "00", "01", "007", "0000", "65536", "65537", "65538", "99999", "100000", "131073", "655350", "4294967296", "4294967297",
+    "18446744073709551616", "18446744073709551617", "-1", "-0", "+1", "1.0", "1e1", "0x1", "1a", "a", "١",
+];
+
+const NUMBER_WORDS: [&str; 8] = ["create", "stop", "class", "receive", "read", "signal", "wait", "send"];
+
+const NEAR_BYTES: [&str; 14] = ["4", "414", "4G", "g4", "AB", "aB", "--", "-41", "41-", "0x41", "4 1", "41 ", "4:", "4`"];
+
+/// A line without newline that a desk should call bad, or a call with some bytes changed.
+pub fn junk_line(random: &mut Random, call: &str) -> Vec<u8> {
+    let mut line = match random.below(9) {
+        0 => {
+            let length = random.below(40);
+            random.bytes(length)
+        }
+        1 => random.pick(&NEAR_WORDS).unwrap_or("").as_bytes().to_vec(),
+        2 => bad_number(random).into_bytes(),
+        3 => bad_bytes(random).into_bytes(),
+        4 => spaced(random, call).into_bytes(),
+        5 if random.one_in(4) => long_line(random, call),
+        _ => damaged(random, call.as_bytes()),
+    };
+    line.iter_mut().filter(|byte| **byte == b'\n').for_each(|byte| *byte = b'\r');
+    line
+}
+
+fn bad_number(random: &mut Random) -> String {
+    let word = random.pick(&NUMBER_WORDS).unwrap_or("stop");
+    let number = random.pick(&NEAR_NUMBERS).unwrap_or("00");
+    match word {
+        "send" => format!("send {number} 41"),
+        "read" if random.one_in(4) => format!("read {}", random.between(514, 65_535)),
+        "read" if random.one_in(2) => "read 513".to_string(),
+        _ => format!("{word} {number}"),
+    }
+}
+
+fn bad_bytes(random: &mut Random) -> String {
+    let mailbox = random.below(16);
+    match random.below(4) {
+        0 => format!("send {mailbox} {}", "5a".repeat(random.between(601, 644))),
+        1 => format!("send {mailbox} {}5", "5a".repeat(random.between(0, 600))),
+        _ => format!("send {mailbox} {}", random.pick(&NEAR_BYTES).unwrap_or("4")),
+    }
+}
+
+/// Spaces, tabs, carriage returns and zero bytes where none belong.
+fn spaced(random: &mut Random, call: &str) -> String {
+    match random.below(10) {
+        0 => format!(" {call}"),
+        1 => format!("{call} "),
+        2 => call.replacen(' ', "  ", 1) + " ",
+        3 => call.replacen(' ', "  ", 1),
+        4 => format!("{call}\t"),
+        5 => call.replacen(' ', "\t", 1),
+        6 => format!("{call}\0"),
+        7 => format!("\r{call}"),
+        _ => format!("{call}\r"),
+    }
+}
+
+fn damaged(random: &mut Random, call: &[u8]) -> Vec<u8> {
+    let mut line = call.to_vec();
+    let place = random.below(line.len());
+    match random.below(4) {
+        0 => {
+            line.remove(place);
+        }
+        1 => line.insert(place, random.next() as u8),
+        2 => line[place] ^= 1 << random.below(8),
+        _ => line.truncate(place),
+    }
+    line
+}
+
+/// A line about as long as the longest that is looked at, or somewhat longer.
+/// A desk that cuts lines there would find a call in some of the tails.
+fn long_line(random: &mut Random, call: &str) -> Vec<u8> {
+    let length = match random.below(4) {
+        0 => 2 * LINE_BYTES + random.below(4),
+        _ => random.between(LINE_BYTES - 1, LINE_BYTES + 2),
+    };
+    filled(random, call, length)
+}
+
+/// A line of one to three megabytes.
+pub fn giant_line(random: &mut Random, call: &str) -> Vec<u8> {
+    let length = random.between(1_000_000, 3_000_000);
+    filled(random, call, length)
+}
+
+/// So many bytes that look like a call, begin with one, are nothing at all, or (with its length more) end with one.
+fn filled(random: &mut Random, call: &str, length: usize) -> Vec<u8> {
+    let mut line = match random.below(6) {
+        0 => random.bytes(length),
+        1 => format!("send {} {}", random.below(16), "5a".repeat(length / 2)).into_bytes(),
+        2 => format!("{call}{}", " ".repeat(length)).into_bytes(),
+        3 => format!("create {}1", "0".repeat(length)).into_bytes(),
+        4 => format!("{call} ").repeat(length / call.len() + 1).into_bytes(),
+        _ => return format!("{}{call}", "x".repeat(length)).into_bytes(),
+    };
+    line.truncate(length);
+    line.iter_mut().filter(|byte| **byte == b'\n').for_each(|byte| *byte = b'\r');
+    line
+}
+
+#[cfg(test)]
+mod tests {
+    use super::*;
+    use crate::grammar::parse;
+
+    #[test]
+    fn no_newlines_and_mostly_bad() {
+        let mut random = Random::new(5);
+        let lines: Vec<Vec<u8>> = (0..20_000).map(|_| junk_line(&mut random, "create 3")).collect();
+        assert!(lines.iter().all(|line| !line.contains(&b'\n')));
+        assert!(lines.iter().filter(|line| parse(line).is_none()).count() > 18_000);
+        for length in 1_299..=1_302 {
+            assert!(lines.iter().any(|line| line.len() == length), "{length} bytes");
+        }
+        let giant = giant_line(&mut random, "tick");
+        assert!(giant.len() >= 1_000_000 && !giant.contains(&b'\n'));
+    }
+}

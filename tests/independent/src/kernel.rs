@@ -1,0 +1,328 @@
+//! The kernel of document 01 as places and lists in order. Written to be obvious, not fast.
+//!
+//! A kernel here is always sound: it starts fresh and only its calls change it, or it comes from `image::decide`.
+//! So codes 14 and 15, which are for states and stores from outside, are not given here but in `lent`.
+
+use crate::answer::*;
+use std::collections::VecDeque;
+
+/// Processes are numbered 0 to 31; 0 is the null process.
+pub const PROCESSES: usize = 32;
+pub const CLASSES: usize = 5;
+pub const MAILBOXES: usize = 16;
+/// How many messages may be queued in one mailbox.
+pub const MAILBOX_MESSAGES: usize = 8;
+pub const BUFFERS: usize = 32;
+pub const BUFFER_BYTES: usize = 512;
+pub const STORE_BYTES: usize = BUFFERS * BUFFER_BYTES;
+pub const SEMAPHORES: usize = 16;
+pub const COUNT_LIMIT: u32 = 65_535;
+/// Ticks of a whole slice.
+pub const SLICE: u32 = 3;
+
+/// A message and the buffer that it lies in.
+#[derive(Clone, Debug, PartialEq, Eq)]
+pub struct Message {
+    pub buffer: usize,
+    pub bytes: Vec<u8>,
+}
+
+#[derive(Clone, Debug, PartialEq, Eq)]
+pub struct Process {
+    pub class: usize,
+    pub ticks: u32,
+    pub hand: Option<Message>,
+}
+
+/// First in the queue is first in the list, here and everywhere.
+#[derive(Clone, Debug, Default, PartialEq, Eq)]
+pub struct Mailbox {
+    pub messages: VecDeque<Message>,
+    pub waiters: VecDeque<usize>,
+}
+
+#[derive(Clone, Debug, Default, PartialEq, Eq)]
+pub struct Semaphore {
+    pub count: u32,
+    pub waiters: VecDeque<usize>,
+}
+
+#[derive(Clone, Debug, PartialEq, Eq)]
+pub struct Kernel {
+    /// Who runs; 0 is the null process.
+    pub running: usize,
+    /// None is an unused number. Process 0 has no class, ticks or hand, so its entry is None too.
+    pub processes: [Option<Process>; PROCESSES],
+    /// Who is ready, by class. The one that runs is in none of them.
+    pub ready: [VecDeque<usize>; CLASSES],
+    pub mailboxes: [Mailbox; MAILBOXES],
+    pub semaphores: [Semaphore; SEMAPHORES],
+}
+
+impl Kernel {
+    pub fn fresh() -> Kernel {
+        Kernel {
+            running: 0,
+            processes: Default::default(),
+            ready: Default::default(),
+            mailboxes: Default::default(),
+            semaphores: Default::default(),
+        }
+    }
+
+    // The calls.
+
+    pub fn create(&mut self, class: u32) -> Answer {
+        if class as usize >= CLASSES {
+            return self.answer(NO_SUCH_CLASS, 0);
+        }
+        let Some(new) = self.lowest_unused() else {
+            return self.answer(NO_UNUSED_PROCESS, 0);
+        };
+        self.processes[new] = Some(Process { class: class as usize, ticks: SLICE, hand: None });
+        self.make_ready(new);
+        self.answer(DONE, new)
+    }
+
+    pub fn stop(&mut self, process: u32) -> Answer {
+        let stopped = process as usize;
+        if stopped == 0 || stopped >= PROCESSES || self.processes[stopped].is_none() {
+            return self.answer(NO_SUCH_PROCESS, 0);
+        }
+        self.remove(stopped);
+        self.answer(DONE, 0)
+    }
+
+    pub fn end(&mut self) -> Answer {
+        if self.running == 0 {
+            return self.answer(NULL_RUNS, 0);
+        }
+        self.remove(self.running);
+        self.answer(DONE, 0)
+    }
+
+    pub fn yield_now(&mut self) -> Answer {
+        if self.running == 0 {
+            return self.answer(NULL_RUNS, 0);
+        }
+        self.caller_to_the_rear();
+        self.answer(DONE, 0)
+    }
+
+    pub fn class(&mut self, class: u32) -> Answer {
+        if self.running == 0 {
+            return self.answer(NULL_RUNS, 0);
+        }
+        if class as usize >= CLASSES {
+            return self.answer(NO_SUCH_CLASS, 0);
+        }
+        if self.caller().class != class as usize {
+            self.caller().class = class as usize;
+            self.caller_to_the_rear();
+        }
+        self.answer(DONE, 0)
+    }
+
+    pub fn tick(&mut self) -> Answer {
+        if self.running != 0 {
+            self.caller().ticks -= 1;
+            if self.caller().ticks == 0 {
+                self.caller_to_the_rear();
+            }
+        }
+        self.answer(DONE, 0)
+    }
+
+    pub fn send(&mut self, mailbox: u32, bytes: &[u8]) -> Answer {
+        if mailbox as usize >= MAILBOXES {
+            return self.answer(NO_SUCH_MAILBOX, 0);
+        }
+        if bytes.len() > BUFFER_BYTES {
+            return self.answer(MESSAGE_TOO_LONG, 0);
+        }
+        if self.mailboxes[mailbox as usize].messages.len() == MAILBOX_MESSAGES {
+            return self.answer(MAILBOX_FULL, 0);
+        }
+        let Some(buffer) = self.lowest_free_buffer() else {
+            return self.answer(NO_FREE_BUFFER, 0);
+        };
+        let message = Message { buffer, bytes: bytes.to_vec() };
+        let mailbox = &mut self.mailboxes[mailbox as usize];
+        match mailbox.waiters.pop_front() {
+            Some(waiter) => {
+                self.process(waiter).hand = Some(message);
+                self.make_ready(waiter);
+            }
+            None => mailbox.messages.push_back(message),
+        }
+        self.answer(DONE, 0)
+    }
+
+    pub fn receive(&mut self, mailbox: u32) -> Answer {
+        if self.running == 0 {
+            return self.answer(NULL_RUNS, 0);
+        }
+        if mailbox as usize >= MAILBOXES {
+            return self.answer(NO_SUCH_MAILBOX, 0);
+        }
+        if self.caller().hand.is_some() {
+            return self.answer(HAND_FULL, 0);
+        }
+        match self.mailboxes[mailbox as usize].messages.pop_front() {
+            Some(message) => {
+                let length = message.bytes.len();
+                self.caller().hand = Some(message);
+                self.answer(DONE, length)
+            }
+            None => {
+                self.caller().ticks = SLICE;
+                self.mailboxes[mailbox as usize].waiters.push_back(self.running);
+                self.choose();
+                self.answer(CALLER_WAITS, 0)
+            }
+        }
+    }
+
+    /// The answer, and the message in hand if the room is long enough.
+    pub fn read(&self, room: u32) -> (Answer, Option<Vec<u8>>) {
+        if self.running == 0 {
+            return (self.answer(NULL_RUNS, 0), None);
+        }
+        let Some(message) = self.hand_of(self.running) else {
+            return (self.answer(HAND_EMPTY, 0), None);
+        };
+        let length = message.bytes.len();
+        if (room as usize) < length {
+            return (self.answer(TOO_LITTLE_ROOM, length), None);
+        }
+        (self.answer(DONE, length), Some(message.bytes.clone()))
+    }
+
+    pub fn release(&mut self) -> Answer {
+        if self.running == 0 {
+            return self.answer(NULL_RUNS, 0);
+        }
+        if self.caller().hand.is_none() {
+            return self.answer(HAND_EMPTY, 0);
+        }
+        self.caller().hand = None;
+        self.answer(DONE, 0)
+    }
+
+    pub fn signal(&mut self, semaphore: u32) -> Answer {
+        if semaphore as usize >= SEMAPHORES {
+            return self.answer(NO_SUCH_SEMAPHORE, 0);
+        }
+        let semaphore = &mut self.semaphores[semaphore as usize];
+        if semaphore.count == COUNT_LIMIT {
+            return self.answer(COUNT_AT_LIMIT, 0);
+        }
+        match semaphore.waiters.pop_front() {
+            Some(waiter) => self.make_ready(waiter),
+            None => semaphore.count += 1,
+        }
+        self.answer(DONE, 0)
+    }
+
+    pub fn wait(&mut self, semaphore: u32) -> Answer {
+        if self.running == 0 {
+            return self.answer(NULL_RUNS, 0);
+        }
+        if semaphore as usize >= SEMAPHORES {
+            return self.answer(NO_SUCH_SEMAPHORE, 0);
+        }
+        if self.semaphores[semaphore as usize].count > 0 {
+            self.semaphores[semaphore as usize].count -= 1;
+            return self.answer(DONE, 0);
+        }
+        self.caller().ticks = SLICE;
+        self.semaphores[semaphore as usize].waiters.push_back(self.running);
+        self.choose();
+        self.answer(CALLER_WAITS, 0)
+    }
+
+    // Who runs.
+
+    /// The first of the highest class with anyone ready runs, else 0.
+    fn choose(&mut self) {
+        self.running = self.ready.iter_mut().rev().find_map(|queue| queue.pop_front()).unwrap_or(0);
+    }
+
+    /// Joins the rear of its class with a whole slice; one above the running one's class runs at once,
+    /// and the one that ran goes to the front of its own class with its ticks left.
+    fn make_ready(&mut self, woken: usize) {
+        self.process(woken).ticks = SLICE;
+        let class = self.process(woken).class;
+        self.ready[class].push_back(woken);
+        if self.running == 0 {
+            self.choose();
+        } else if class > self.caller().class {
+            let preempted_class = self.caller().class;
+            self.ready[preempted_class].push_front(self.running);
+            self.choose();
+        }
+    }
+
+    fn caller_to_the_rear(&mut self) {
+        self.caller().ticks = SLICE;
+        let class = self.caller().class;
+        self.ready[class].push_back(self.running);
+        self.choose();
+    }
+
+    /// Out of whatever place it is in; the message in its hand goes with it.
+    fn remove(&mut self, stopped: usize) {
+        self.processes[stopped] = None;
+        let queues = self.ready.iter_mut();
+        let at_mailboxes = self.mailboxes.iter_mut().map(|mailbox| &mut mailbox.waiters);
+        let at_semaphores = self.semaphores.iter_mut().map(|semaphore| &mut semaphore.waiters);
+        for queue in queues.chain(at_mailboxes).chain(at_semaphores) {
+            queue.retain(|&process| process != stopped);
+        }
+        if self.running == stopped {
+            self.choose();
+        }
+    }
+
+    // Looking around.
+
+    pub(crate) fn answer(&self, code: u32, number: usize) -> Answer {
+        Answer { code, number: number as u32, running: self.running as u32 }
+    }
+
+    /// A process that is in use.
+    fn process(&mut self, number: usize) -> &mut Process {
+        self.processes[number].as_mut().expect("a process in use")
+    }
+
+    /// The running process, which must not be 0.
+    fn caller(&mut self) -> &mut Process {
+        self.process(self.running)
+    }
+
+    pub fn hand_of(&self, process: usize) -> Option<&Message> {
+        self.processes[process].as_ref()?.hand.as_ref()
+    }
+
+    pub fn lowest_unused(&self) -> Option<usize> {
+        (1..PROCESSES).find(|&number| self.processes[number].is_none())
+    }
+
+    pub fn lowest_free_buffer(&self) -> Option<usize> {
+        (0..BUFFERS).find(|&buffer| self.held().all(|message| message.buffer != buffer))
+    }
+
+    /// Every message there is, in hands and in mailboxes.
+    pub fn held(&self) -> impl Iterator<Item = &Message> {
+        let in_hands = (1..PROCESSES).filter_map(|process| self.hand_of(process));
+        let queued = self.mailboxes.iter().flat_map(|mailbox| &mailbox.messages);
+        in_hands.chain(queued)
+    }
+
+    /// Every message there is, to change it.
+    pub fn held_mut(&mut self) -> impl Iterator<Item = &mut Message> {
+        let in_hands = self.processes.iter_mut().flatten().filter_map(|process| process.hand.as_mut());
+        let queued = self.mailboxes.iter_mut().flat_map(|mailbox| &mut mailbox.messages);
+        in_hands.chain(queued)
+    }
+}

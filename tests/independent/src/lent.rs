@@ -1,0 +1,121 @@
+//! Calls as the board's firmware makes them: the state lies as an image in a lent area, the messages in a lent store.
+//! Here codes 14 and 15 are given. An area that is refused, and a store that isn't written, stay as they are.
+
+use crate::answer::*;
+use crate::call::Call;
+use crate::image::*;
+use crate::kernel::{Kernel, STORE_BYTES};
+use crate::listing::Row;
+
+const STATE_REFUSED: Answer = Answer { code: NOT_SOUND, number: 0, running: 0 };
+const FRESH_WRITTEN: Answer = Answer { code: DONE, number: 0, running: 0 };
+
+/// Writes a fresh image.
+pub fn fresh(area: &mut [u8]) -> Answer {
+    if area.len() != IMAGE_BYTES {
+        return STATE_REFUSED;
+    }
+    area.copy_from_slice(&image(&Kernel::fresh()));
+    FRESH_WRITTEN
+}
+
+/// Does a call. Only a send and a read are lent a store; the others don't look at it.
+/// The bytes are those that a read puts at the start of its room.
+pub fn call(area: &mut [u8], store: &mut [u8], call: &Call) -> (Answer, Option<Vec<u8>>) {
+    let Some(mut kernel) = decide(area) else {
+        return (STATE_REFUSED, None);
+    };
+    let uses_store = matches!(call, Call::Send(..) | Call::Read(..));
+    if uses_store && store.len() != STORE_BYTES {
+        return (kernel.answer(NOT_A_STORE, 0), None);
+    }
+    if uses_store {
+        take_bytes(&mut kernel, store);
+    }
+    let reply = kernel.apply(call);
+    if uses_store {
+        lay_bytes(&kernel, store);
+    }
+    area.copy_from_slice(&image(&kernel));
+    reply
+}
+
+/// Lists the processes into a lent table of rows.
+pub fn listing(area: &[u8], table: &mut [Row]) -> Answer {
+    match decide(area) {
+        Some(kernel) => kernel.listing(table),
+        None => STATE_REFUSED,
+    }
+}
+
+#[cfg(test)]
+mod tests {
+    use super::*;
+    use crate::grammar::parse;
+    use crate::random::Random;
+    use crate::scripts::Script;
+
+    #[test]
+    fn as_the_kernel_alone() {
+        for seed in 0..8 {
+            let mut area = vec![0; IMAGE_BYTES];
+            fresh(&mut area);
+            let mut store = Random::new(seed).bytes(STORE_BYTES);
+            let mut kernel = Kernel::fresh();
+            let mut script = Script::new(seed + 8, 400);
+            while let Some(line) = script.next_line() {
+                let Some(asked) = parse(&line) else { continue };
+                let before = store.clone();
+                let buffer = kernel.lowest_free_buffer();
+                let expected = kernel.apply(&asked);
+                assert_eq!(call(&mut area, &mut store, &asked), expected, "seed {seed}, {asked:?}");
+                assert_eq!(area[..], image(&kernel));
+                // A send writes its own bytes in its buffer and no other.
+                let mut after = before;
+                if let (Call::Send(_, bytes), Some(buffer), DONE) = (&asked, buffer, expected.0.code) {
+                    after[512 * buffer..512 * buffer + bytes.len()].copy_from_slice(bytes);
+                }
+                assert!(store == after);
+            }
+        }
+    }
+
+    #[test]
+    fn states_refused() {
+        let mut store = vec![7; STORE_BYTES];
+        for length in [0, 1, 442, 444] {
+            let mut area = vec![5; length];
+            assert_eq!(fresh(&mut area), STATE_REFUSED);
+            assert_eq!(call(&mut area, &mut store, &Call::Tick), (STATE_REFUSED, None));
+            assert_eq!(listing(&area, &mut [Row::default(); 32]), STATE_REFUSED);
+            assert!(area.iter().all(|&byte| byte == 5));
+        }
+        let mut area = vec![0; IMAGE_BYTES];
+        // 14 comes before 15 and 9.
+        assert_eq!(call(&mut area, &mut [], &Call::Read(0)), (STATE_REFUSED, None));
+        assert_eq!(listing(&area, &mut []), STATE_REFUSED);
+        assert!(area.iter().all(|&byte| byte == 0));
+        assert_eq!(fresh(&mut area), FRESH_WRITTEN);
+        assert_eq!(call(&mut area, &mut store, &Call::Tick).0.code, DONE);
+    }
+
+    #[test]
+    fn stores_refused() {
+        let mut area = vec![0; IMAGE_BYTES];
+        fresh(&mut area);
+        for length in [0, 16_383, 16_385] {
+            let mut store = vec![7; length];
+            // 15 comes before 5, 3 and 6.
+            let refused = Answer { code: NOT_A_STORE, number: 0, running: 0 };
+            assert_eq!(call(&mut area, &mut store, &Call::Read(0)), (refused, None));
+            assert_eq!(call(&mut area, &mut store, &Call::Send(16, vec![1; 513])), (refused, None));
+            assert_eq!(call(&mut area, &mut store, &Call::Receive(0)).0.code, NULL_RUNS);
+            assert!(store.iter().all(|&byte| byte == 7));
+        }
+        call(&mut area, &mut [], &Call::Create(2));
+        let before = area.clone();
+        let refused = Answer { code: NOT_A_STORE, number: 0, running: 1 };
+        assert_eq!(call(&mut area, &mut [], &Call::Send(0, vec![])), (refused, None));
+        assert_eq!(area, before);
+    }
+}

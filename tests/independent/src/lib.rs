@@ -1,0 +1,16 @@
+//! The kernel of document 01, written a second time as plain lists and places, and what is needed to compare other programs with it.
+
+pub mod answer;
+pub mod call;
+pub mod compare;
+pub mod coverage;
+pub mod desk;
+pub mod grammar;
+pub mod image;
+pub mod junk;
+pub mod kernel;
+pub mod lent;
+pub mod listing;
+pub mod random;
+pub mod scripts;
+pub mod sound;

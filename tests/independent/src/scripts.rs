@@ -1,0 +1,413 @@
+//! Random scripts that reach deep states. The same seed and number of lines give the same script everywhere.
+//!
+//! Calls drawn blindly rarely fill a mailbox or gather waiters. So the kernel runs alongside, and each line is drawn
+//! from wishes that look at its state, such as "receive where there is a message". The seed chooses the style: its
+//! phases, each a list of wishes with weights, take turns.
+
+use crate::call::Call;
+use crate::grammar::{line_of, parse};
+use crate::junk::{giant_line, junk_line};
+use crate::kernel::*;
+use crate::random::Random;
+use std::io::{self, Write};
+
+/// What a line should ask for, if the state allows; if it doesn't, any call is taken.
+#[derive(Clone, Copy, Debug)]
+enum Wish {
+    Create,
+    CreateAbove,
+    CreateUpTo,
+    StopLive,
+    StopReady,
+    StopWaiter,
+    StopHolder,
+    StopAny,
+    End,
+    Yield,
+    ClassAny,
+    ClassBelow,
+    Tick,
+    SendAny,
+    SendSmall,
+    SendWithRoom,
+    SendToFull,
+    SendToWaiter,
+    ReceiveAny,
+    ReceiveFilled,
+    ReceiveEmpty,
+    ReceiveWaited,
+    ReadAny,
+    ReadNear,
+    ReadZero,
+    Release,
+    SignalAny,
+    SignalWaited,
+    SignalFavourite,
+    WaitAny,
+    WaitCounted,
+    WaitZero,
+    WaitWaited,
+    WaitFavourite,
+    OutOfRange,
+}
+use Wish::*;
+
+type Phase = &'static [(usize, Wish)];
+
+struct Style {
+    name: &'static str,
+    phases: &'static [Phase],
+    /// One line in so many is junk.
+    junk: usize,
+}
+
+const STYLES: [Style; 8] = [
+    Style {
+        name: "mixed",
+        junk: 40,
+        phases: &[&[
+            (10, Create), (3, StopLive), (1, StopAny), (2, End), (5, Yield), (5, ClassAny), (15, Tick), (12, SendAny), (6, ReceiveAny),
+            (8, ReceiveFilled), (5, ReadAny), (5, ReadNear), (6, Release), (6, SignalAny), (5, SignalWaited), (5, WaitAny),
+            (3, WaitCounted), (2, OutOfRange),
+        ]],
+    },
+    Style {
+        name: "crowded",
+        junk: 300,
+        phases: &[
+            &[(50, Create), (5, CreateAbove), (10, Tick), (5, Yield), (5, ClassAny), (3, WaitAny), (3, ReceiveAny), (1, StopLive), (1, OutOfRange)],
+            &[
+                (20, Create), (6, StopLive), (2, StopWaiter), (2, StopReady), (1, End), (10, Tick), (5, Yield), (3, ClassAny), (6, WaitAny),
+                (6, ReceiveAny), (8, SignalWaited), (8, SendToWaiter), (3, SendAny), (3, Release), (2, OutOfRange),
+            ],
+        ],
+    },
+    Style {
+        name: "mail",
+        junk: 300,
+        phases: &[
+            &[(30, SendWithRoom), (5, SendToFull), (3, SendAny), (3, Create), (4, Tick), (1, Yield), (1, OutOfRange)],
+            &[
+                (15, ReceiveFilled), (15, SendWithRoom), (3, SendToFull), (8, Yield), (6, Create), (2, Tick), (3, ReadNear), (2, ReceiveAny),
+                (2, WaitZero), (2, SignalWaited), (3, Release),
+            ],
+            &[(15, ReceiveFilled), (18, Release), (4, ReadAny), (4, Yield), (2, StopHolder), (2, Create), (3, SendAny), (1, End), (2, ReceiveEmpty)],
+        ],
+    },
+    Style {
+        name: "waiters",
+        junk: 300,
+        phases: &[
+            &[
+                (12, Create), (6, ReceiveEmpty), (12, ReceiveWaited), (6, WaitZero), (12, WaitWaited), (3, Release), (3, ReceiveFilled),
+                (4, Tick), (2, CreateUpTo),
+            ],
+            &[(12, SendToWaiter), (12, SignalWaited), (4, Tick), (3, Release), (3, ReadNear), (2, Yield), (2, Create)],
+            &[
+                (10, StopWaiter), (8, SendToWaiter), (8, SignalWaited), (6, ReceiveWaited), (6, WaitWaited), (6, Create), (4, Tick),
+                (3, Release), (2, ClassAny), (2, SendAny), (2, SignalAny), (1, OutOfRange),
+            ],
+        ],
+    },
+    Style {
+        name: "preemption",
+        junk: 300,
+        phases: &[
+            &[(20, Create), (10, CreateAbove), (30, Tick), (6, Yield), (6, ClassAny), (6, ClassBelow), (3, End), (3, StopReady)],
+            &[
+                (5, Create), (30, Tick), (10, WaitZero), (14, SignalWaited), (4, ReceiveEmpty), (6, SendToWaiter), (4, Yield), (6, ClassBelow),
+                (3, ClassAny), (3, Release), (2, StopLive),
+            ],
+            &[(6, CreateAbove), (25, Tick), (12, End), (4, StopReady), (4, ClassAny), (3, SignalWaited), (1, OutOfRange)],
+        ],
+    },
+    Style {
+        name: "counting",
+        junk: 500,
+        phases: &[
+            &[(40, SignalFavourite), (10, SignalAny), (5, WaitFavourite), (3, Create), (3, Tick), (1, StopLive), (1, OutOfRange)],
+            &[
+                (6, SignalFavourite), (5, WaitFavourite), (10, WaitCounted), (6, WaitZero), (6, SignalWaited), (6, Create), (4, Tick), (2, Yield),
+                (2, StopWaiter), (1, OutOfRange),
+            ],
+        ],
+    },
+    Style {
+        name: "reads",
+        junk: 100,
+        phases: &[
+            &[
+                (8, SendAny), (8, SendWithRoom), (10, ReceiveFilled), (15, ReadNear), (6, ReadAny), (4, ReadZero), (8, Release), (4, Create),
+                (3, Yield), (3, Tick), (1, ReceiveEmpty), (2, SendToWaiter), (1, StopHolder), (1, OutOfRange),
+            ],
+            &[
+                (6, ReceiveWaited), (8, SendToWaiter), (12, ReadNear), (4, ReadZero), (3, ReadAny), (6, Release), (5, Create), (2, Yield),
+                (2, WaitZero), (2, SignalWaited), (1, StopHolder),
+            ],
+        ],
+    },
+    Style {
+        name: "junk",
+        junk: 2,
+        phases: &[&[
+            (8, Create), (2, StopLive), (1, End), (3, Yield), (3, ClassAny), (8, Tick), (8, SendSmall), (6, ReceiveFilled), (2, ReceiveAny),
+            (5, ReadNear), (4, Release), (4, SignalAny), (3, SignalWaited), (3, WaitAny), (2, OutOfRange),
+        ]],
+    },
+];
+
+/// One in so many scripts of the counting style begins by driving one count to its limit, on top of its lines.
+const FLOODED: u64 = 8;
+/// One in so many scripts of the junk style has a giant line.
+const WITH_GIANT: u64 = 3;
+
+/// The lines of a script one after the other, and the kernel as it is after the last one.
+pub struct Script {
+    random: Random,
+    kernel: Kernel,
+    style: &'static Style,
+    phase: Phase,
+    phase_left: usize,
+    /// A semaphore that the counting style prefers.
+    favourite: u32,
+    flooding: bool,
+    /// Which line from the end is a giant one; 0 is none.
+    giant: u64,
+    lines_left: u64,
+    /// Whether the last line goes without its newline.
+    open_end: bool,
+}
+
+impl Script {
+    pub fn new(seed: u64, lines: u64) -> Script {
+        let style = &STYLES[(seed % STYLES.len() as u64) as usize];
+        let turn = seed / STYLES.len() as u64;
+        let mut random = Random::new(seed);
+        let giant = if style.name == "junk" && turn % WITH_GIANT == 0 && lines > 0 { 1 + random.next() % lines } else { 0 };
+        Script {
+            favourite: random.below(SEMAPHORES) as u32,
+            open_end: random.one_in(4),
+            random,
+            kernel: Kernel::fresh(),
+            style,
+            phase: style.phases[0],
+            phase_left: 0,
+            flooding: style.name == "counting" && turn % FLOODED == 0,
+            giant,
+            lines_left: lines,
+        }
+    }
+
+    pub fn style(&self) -> &'static str {
+        self.style.name
+    }
+
+    /// The state after the lines given so far.
+    pub fn kernel(&self) -> &Kernel {
+        &self.kernel
+    }
+
+    /// The next line, without newline.
+    pub fn next_line(&mut self) -> Option<Vec<u8>> {
+        self.flooding = self.flooding && self.kernel.semaphores[self.favourite as usize].count < COUNT_LIMIT;
+        let aside = self.lines_left > 200 && self.random.one_in(500);
+        let line = if self.flooding && !aside {
+            line_of(&Call::Signal(self.favourite)).into_bytes()
+        } else if self.lines_left == 0 {
+            return None;
+        } else {
+            let line = self.drawn_line();
+            self.lines_left -= 1;
+            line
+        };
+        if let Some(call) = parse(&line) {
+            self.kernel.apply(&call);
+        }
+        Some(line)
+    }
+
+    fn drawn_line(&mut self) -> Vec<u8> {
+        if self.phase_left == 0 {
+            self.phase = self.random.pick(self.style.phases).unwrap_or(self.phase);
+            self.phase_left = self.random.between(20, 150);
+        }
+        self.phase_left -= 1;
+        let wish = self.random.weighted(self.phase);
+        let call = self.wished(wish).unwrap_or_else(|| self.any_call());
+        let line = line_of(&call);
+        if self.lines_left == self.giant {
+            giant_line(&mut self.random, &line)
+        } else if self.random.one_in(self.style.junk) {
+            junk_line(&mut self.random, &line)
+        } else {
+            line.into_bytes()
+        }
+    }
+
+    fn wished(&mut self, wish: Wish) -> Option<Call> {
+        let kernel = &self.kernel;
+        let random = &mut self.random;
+        let running_class = kernel.processes[kernel.running].as_ref().map_or(0, |process| process.class);
+        let hand_length = kernel.hand_of(kernel.running).map(|message| message.bytes.len());
+        Some(match wish {
+            Create => Call::Create(random.below(CLASSES) as u32),
+            CreateAbove => Call::Create(random.between((running_class + 1).min(CLASSES - 1), CLASSES - 1) as u32),
+            CreateUpTo => Call::Create(random.between(0, running_class) as u32),
+            StopLive => Call::Stop(random.pick(&processes(kernel, |_| true))?),
+            StopReady => Call::Stop(random.pick(&processes(kernel, |number| kernel.ready.iter().any(|queue| queue.contains(&number))))?),
+            StopWaiter => Call::Stop(random.pick(&processes(kernel, |number| waits(kernel, number)))?),
+            StopHolder => Call::Stop(random.pick(&processes(kernel, |number| kernel.hand_of(number).is_some()))?),
+            StopAny => Call::Stop(random.below(40) as u32),
+            End => Call::End,
+            Yield => Call::Yield,
+            ClassAny => Call::Class(random.below(CLASSES) as u32),
+            ClassBelow => Call::Class(random.between(0, running_class) as u32),
+            Tick => Call::Tick,
+            SendAny => {
+                let mailbox = random.below(MAILBOXES) as u32;
+                Call::Send(mailbox, message(random))
+            }
+            SendSmall => Call::Send(random.below(MAILBOXES) as u32, short_message(random)),
+            SendWithRoom => {
+                let open = mailboxes(kernel, |mailbox| mailbox.messages.len() < MAILBOX_MESSAGES && mailbox.waiters.is_empty());
+                Call::Send(random.pick(&open)?, message(random))
+            }
+            SendToFull => {
+                let full = mailboxes(kernel, |mailbox| mailbox.messages.len() == MAILBOX_MESSAGES);
+                let fullest = mailboxes(kernel, |mailbox| mailbox.messages.len() >= MAILBOX_MESSAGES / 2);
+                let chosen = if random.one_in(2) { random.pick(&full) } else { random.pick(&fullest) };
+                Call::Send(chosen.unwrap_or(0), short_message(random))
+            }
+            SendToWaiter => Call::Send(random.pick(&mailboxes(kernel, |mailbox| !mailbox.waiters.is_empty()))?, message(random)),
+            ReceiveAny => Call::Receive(random.below(MAILBOXES) as u32),
+            ReceiveFilled => Call::Receive(random.pick(&mailboxes(kernel, |mailbox| !mailbox.messages.is_empty()))?),
+            ReceiveEmpty => Call::Receive(random.pick(&mailboxes(kernel, |mailbox| mailbox.messages.is_empty()))?),
+            ReceiveWaited => {
+                let least = waiters_wanted(random, kernel.mailboxes.iter().map(|mailbox| mailbox.waiters.len()));
+                Call::Receive(random.pick(&mailboxes(kernel, |mailbox| mailbox.waiters.len() >= least))?)
+            }
+            ReadAny => Call::Read(random.between(0, 512) as u32),
+            ReadNear => Call::Read((hand_length? + random.below(3)).saturating_sub(1).min(512) as u32),
+            ReadZero => Call::Read(0),
+            Release => Call::Release,
+            SignalAny => Call::Signal(random.below(SEMAPHORES) as u32),
+            SignalWaited => Call::Signal(random.pick(&semaphores(kernel, |semaphore| !semaphore.waiters.is_empty()))?),
+            SignalFavourite => Call::Signal(self.favourite),
+            WaitAny => Call::Wait(random.below(SEMAPHORES) as u32),
+            WaitCounted => Call::Wait(random.pick(&semaphores(kernel, |semaphore| semaphore.count > 0))?),
+            WaitZero => Call::Wait(random.pick(&semaphores(kernel, |semaphore| semaphore.count == 0))?),
+            WaitWaited => {
+                let least = waiters_wanted(random, kernel.semaphores.iter().map(|semaphore| semaphore.waiters.len()));
+                Call::Wait(random.pick(&semaphores(kernel, |semaphore| semaphore.waiters.len() >= least))?)
+            }
+            WaitFavourite => Call::Wait(self.favourite),
+            OutOfRange => out_of_range(random),
+        })
+    }
+
+    /// Any call, as far as its arguments are in range.
+    fn any_call(&mut self) -> Call {
+        let random = &mut self.random;
+        match random.below(12) {
+            0 | 1 => Call::Create(random.below(CLASSES) as u32),
+            2 => Call::Stop(random.below(PROCESSES) as u32),
+            3 => Call::Yield,
+            4 => Call::Class(random.below(CLASSES) as u32),
+            5 => Call::Tick,
+            6 => Call::Send(random.below(MAILBOXES) as u32, message(random)),
+            7 => Call::Receive(random.below(MAILBOXES) as u32),
+            8 => Call::Read(random.between(0, 512) as u32),
+            9 => Call::Release,
+            10 => Call::Signal(random.below(SEMAPHORES) as u32),
+            _ => Call::Wait(random.below(SEMAPHORES) as u32),
+        }
+    }
+}
+
+/// Writes the whole script of a seed.
+pub fn write_script(seed: u64, lines: u64, output: &mut impl Write) -> io::Result<()> {
+    let mut script = Script::new(seed, lines);
+    let mut between: &[u8] = b"";
+    while let Some(line) = script.next_line() {
+        output.write_all(between)?;
+        output.write_all(&line)?;
+        between = b"\n";
+    }
+    if !script.open_end {
+        output.write_all(between)?;
+    }
+    Ok(())
+}
+
+/// The whole script of a seed, in memory.
+pub fn script(seed: u64, lines: u64) -> Vec<u8> {
+    let mut bytes = Vec::new();
+    write_script(seed, lines, &mut bytes).expect("memory does not fail");
+    bytes
+}
+
+fn processes(kernel: &Kernel, wanted: impl Fn(usize) -> bool) -> Vec<u32> {
+    let numbers = (1..PROCESSES).filter(|&number| kernel.processes[number].is_some() && wanted(number));
+    numbers.map(|number| number as u32).collect()
+}
+
+fn waits(kernel: &Kernel, process: usize) -> bool {
+    process != kernel.running && !kernel.ready.iter().any(|queue| queue.contains(&process))
+}
+
+fn mailboxes(kernel: &Kernel, wanted: impl Fn(&Mailbox) -> bool) -> Vec<u32> {
+    (0..MAILBOXES as u32).filter(|&number| wanted(&kernel.mailboxes[number as usize])).collect()
+}
+
+fn semaphores(kernel: &Kernel, wanted: impl Fn(&Semaphore) -> bool) -> Vec<u32> {
+    (0..SEMAPHORES as u32).filter(|&number| wanted(&kernel.semaphores[number as usize])).collect()
+}
+
+/// To join a queue of waiters: the longest half of the time, otherwise any that has someone.
+fn waiters_wanted(random: &mut Random, lengths: impl Iterator<Item = usize>) -> usize {
+    let longest = lengths.max().unwrap_or(0);
+    if random.one_in(2) {
+        longest.max(1)
+    } else {
+        1
+    }
+}
+
+/// Mostly short; now and then about as long as a buffer, or as a line may carry.
+fn message(random: &mut Random) -> Vec<u8> {
+    let length = match random.below(20) {
+        0 => random.between(0, 600),
+        1 => random.between(510, 514),
+        2 => random.between(598, 600),
+        3 => 0,
+        4..=7 => random.between(1, 40),
+        _ => return short_message(random),
+    };
+    random.bytes(length)
+}
+
+fn short_message(random: &mut Random) -> Vec<u8> {
+    let length = random.below(6);
+    random.bytes(length)
+}
+
+fn out_of_range(random: &mut Random) -> Call {
+    let over = |random: &mut Random, limit: usize| {
+        let number = match random.below(3) {
+            0 => limit,
+            1 => random.between(limit, limit + 300),
+            _ => random.between(limit, 65_535),
+        };
+        number as u32
+    };
+    match random.below(7) {
+        0 => Call::Create(over(random, CLASSES)),
+        1 => Call::Class(over(random, CLASSES)),
+        2 => Call::Stop(over(random, PROCESSES)),
+        3 => Call::Stop(0),
+        4 => Call::Send(over(random, MAILBOXES), message(random)),
+        5 => Call::Receive(over(random, MAILBOXES)),
+        _ if random.one_in(2) => Call::Signal(over(random, SEMAPHORES)),
+        _ => Call::Wait(over(random, SEMAPHORES)),
+    }
+}

@@ -1,0 +1,302 @@
+//! Images: of known states by hand, there and back for deep states, and which damaged ones are still sound.
+
+use independent::image::*;
+use independent::kernel::*;
+use independent::listing::{AT_MAILBOX, AT_SEMAPHORE, READY, RUNNING};
+use independent::random::Random;
+use independent::scripts::Script;
+use independent::sound::is_sound;
+
+/// States after random scripts, one per seed.
+fn deep_states(seeds: std::ops::Range<u64>) -> Vec<Kernel> {
+    let state = |seed: u64| {
+        let mut script = Script::new(seed, 100 + 37 * seed % 300);
+        while script.next_line().is_some() {}
+        script.kernel().clone()
+    };
+    seeds.map(state).collect()
+}
+
+#[test]
+fn fresh_image() {
+    let area = image(&Kernel::fresh());
+    let mut expected = vec![0; 65];
+    expected.extend(0..69);
+    expected.extend(0..69);
+    expected.extend([0, 0, 0, 0]);
+    expected.extend([0xfe, 0xff, 0xff, 0xff]);
+    expected.extend(0..48);
+    expected.extend(0..48);
+    expected.extend([0; 32]);
+    expected.extend([0, 0, 0, 0]);
+    expected.extend([0; 64]);
+    expected.extend([0xff, 0xff, 0xff, 0xff]);
+    expected.extend([0; 32]);
+    assert_eq!(area[..], expected[..]);
+    assert_eq!(decide(&area), Some(Kernel::fresh()));
+}
+
+/// Of class 2, processes 4 and then 7 are ready, and nobody else is; 1 runs.
+fn example() -> Kernel {
+    let mut kernel = Kernel::fresh();
+    (1..=7).for_each(|_| assert_eq!(kernel.create(2).code, 0));
+    [2, 3, 5, 6].into_iter().for_each(|process| assert_eq!(kernel.stop(process).code, 0));
+    kernel
+}
+
+#[test]
+fn example_of_the_page() {
+    let area = image(&example());
+    assert_eq!([area[65 + 34], area[65 + 4], area[65 + 7]], [4, 7, 34]);
+    assert_eq!([area[134 + 34], area[134 + 7], area[134 + 4]], [7, 4, 34]);
+    assert_eq!(area[203..207], [4, 0, 0, 0]);
+    assert_eq!(area[207..211], [0b0110_1100, 0xff, 0xff, 0xff]);
+    assert_eq!([area[0], area[1 + 1], area[1 + 4], area[1 + 7], area[1 + 2]], [1, 2, 2, 2, 0]);
+    assert_eq!([area[33 + 1], area[33 + 4], area[33 + 7], area[33 + 2]], [3, 3, 3, 0]);
+    assert_eq!(decide(&area), Some(example()));
+}
+
+#[test]
+fn messages_and_counts_by_hand() {
+    let mut kernel = Kernel::fresh();
+    kernel.send(3, &[1; 258]);
+    kernel.send(3, &[2; 2]);
+    kernel.send(3, &[3; 512]);
+    kernel.create(1);
+    kernel.receive(3); // buffer 0 is in the hand of 1, buffers 1 and 2 are queued in mailbox 3
+    (0..513).for_each(|_| assert_eq!(kernel.signal(15).code, 0));
+    let area = image(&kernel);
+    assert_eq!([area[211 + 35], area[211 + 1], area[211 + 2], area[211]], [1, 2, 35, 0]);
+    assert_eq!([area[259 + 35], area[259 + 2], area[259 + 1], area[259]], [2, 1, 35, 0]);
+    assert_eq!(area[307..339], [0; 32]);
+    assert_eq!(area[339..343], [2, 0, 0, 0]);
+    assert_eq!(area[343..351], [2, 1, 2, 0, 0, 2, 0, 0]);
+    assert_eq!(area[407..411], [0b1111_1000, 0xff, 0xff, 0xff]);
+    assert_eq!(area[439..443], [0, 0, 1, 2]);
+}
+
+#[test]
+fn there_and_back() {
+    for seed in 0..40 {
+        let mut script = Script::new(seed, 600);
+        let mut store = Random::new(seed).bytes(STORE_BYTES);
+        for line in 0.. {
+            // Of the very many lines that drive a count to its limit, a few will do.
+            if line % 97 == 0 || (line < 2_000 && line % 3 == 0) {
+                lay_bytes(script.kernel(), &mut store);
+                assert!(is_sound(script.kernel()));
+                let mut back = decide(&image(script.kernel())).expect("a sound state's image");
+                take_bytes(&mut back, &store);
+                assert!(back == *script.kernel(), "seed {seed}, line {line}");
+            }
+            if script.next_line().is_none() {
+                break;
+            }
+        }
+    }
+}
+
+#[test]
+fn other_lengths() {
+    let area = image(&Kernel::fresh());
+    assert_eq!(decide(&[]), None);
+    assert_eq!(decide(&area[..442]), None);
+    assert_eq!(decide(&[&area[..], &[0]].concat()), None);
+    assert_eq!(decide(&[0; 443]), None);
+    assert_eq!(decide(&[255; 443]), None);
+}
+
+/// Whether an area stays an image of a sound state when one byte of it changes, by the meaning of that byte alone.
+/// Links, bits and hands are written twice over, so that one byte of them can't change alone. There is one exception:
+/// two bits of full hands in one byte, which move buffer 0 from one hand to another, where its number is 0 already.
+fn stays_sound(kernel: &Kernel, area: &[u8], place: usize, byte: u8) -> bool {
+    let highest_ready = (0..CLASSES).rev().find(|&class| !kernel.ready[class].is_empty()).unwrap_or(0);
+    let mut changed = area.to_vec();
+    changed[place] = byte;
+    let two = |field: usize, entry: usize| u32::from(changed[field + 2 * entry]) + 256 * u32::from(changed[field + 2 * entry + 1]);
+    match place {
+        1..=32 => match kernel.row(place - 1).place {
+            RUNNING if place - 1 != 0 => usize::from(byte) >= highest_ready && byte <= 4,
+            AT_MAILBOX | AT_SEMAPHORE => byte <= 4,
+            _ => false,
+        },
+        33..=64 => match kernel.row(place - 33).place {
+            RUNNING if place - 33 != 0 => (1..=3).contains(&byte),
+            READY => (1..=3).contains(&byte),
+            _ => false,
+        },
+        339..=342 => {
+            let flipped: Vec<usize> = (0..8).filter(|bit| (area[place] ^ byte) >> bit & 1 == 1).map(|bit| 8 * (place - 339) + bit).collect();
+            let gives = |process: usize| kernel.hand_of(process).is_some_and(|message| message.buffer == 0);
+            let takes = |process: usize| {
+                process != 0 && kernel.hand_of(process).is_none() && [RUNNING, READY, AT_SEMAPHORE].contains(&kernel.row(process).place)
+            };
+            matches!(flipped[..], [one, other] if gives(one) && takes(other) || gives(other) && takes(one))
+        }
+        343..=406 => {
+            let buffer = (place - 343) / 2;
+            kernel.held().any(|message| message.buffer == buffer) && two(343, buffer) <= 512
+        }
+        411..=442 => kernel.semaphores[(place - 411) / 2].waiters.is_empty(),
+        _ => false,
+    }
+}
+
+#[test]
+fn every_change_of_one_byte() {
+    let mut still_sound = 0;
+    for kernel in deep_states(2..5).into_iter().chain([Kernel::fresh(), example()]) {
+        let area = image(&kernel);
+        for place in 0..IMAGE_BYTES {
+            for byte in (0..=255).filter(|&byte| byte != area[place]) {
+                let mut changed = area;
+                changed[place] = byte;
+                let sound = decide(&changed).is_some();
+                assert_eq!(sound, stays_sound(&kernel, &area, place, byte), "byte {place} from {} to {byte}", area[place]);
+                still_sound += u32::from(sound);
+            }
+        }
+    }
+    assert!(still_sound > 10_000);
+}
+
+/// A state with someone in every kind of place. 1 waits at mailbox 9, 2 at semaphore 15 with buffer 0 in hand, 3 behind 1,
+/// 4 runs with buffer 1 in hand in class 2, 5 and 6 are ready in class 1, 7 in class 0; buffers 2 and 3 are in mailbox 0.
+fn busy() -> Kernel {
+    let mut kernel = Kernel::fresh();
+    kernel.create(4);
+    kernel.receive(9);
+    kernel.create(3);
+    kernel.send(2, b"hand");
+    kernel.receive(2);
+    kernel.wait(15);
+    kernel.create(4);
+    kernel.receive(9);
+    kernel.create(2);
+    [1, 1, 0].into_iter().for_each(|class| assert_eq!(kernel.create(class).running, 4));
+    (0..3).for_each(|_| assert_eq!(kernel.send(0, b"").code, 0));
+    kernel.receive(0);
+    kernel.tick();
+    kernel
+}
+
+fn damaged(damage: impl Fn(&mut Kernel)) -> bool {
+    let mut kernel = busy();
+    damage(&mut kernel);
+    let sound = is_sound(&kernel);
+    let decided = decide(&image(&kernel));
+    // A damaged state may have the image of a sound one, but never of itself.
+    assert!(decided.is_none() || sound);
+    sound
+}
+
+fn block(kernel: &mut Kernel, process: usize) -> &mut Process {
+    kernel.processes[process].as_mut().unwrap()
+}
+
+#[test]
+fn every_line_of_where_everything_stands() {
+    assert!(damaged(|_| ()));
+    // In one place, and in the queue of its own class.
+    assert!(!damaged(|kernel| kernel.processes[5] = None));
+    assert!(!damaged(|kernel| kernel.ready[1].truncate(1)));
+    assert!(!damaged(|kernel| kernel.ready[1].push_back(4)));
+    assert!(!damaged(|kernel| kernel.ready[1].push_back(8)));
+    assert!(!damaged(|kernel| kernel.ready[0].push_back(0)));
+    assert!(!damaged(|kernel| kernel.semaphores[3].waiters.push_back(7)));
+    assert!(!damaged(|kernel| kernel.mailboxes[3].waiters.push_back(1)));
+    assert!(!damaged(|kernel| kernel.running = 0));
+    assert!(!damaged(|kernel| kernel.running = 5));
+    assert!(!damaged(|kernel| kernel.running = 8));
+    assert!(!damaged(|kernel| block(kernel, 7).class = 1));
+    assert!(damaged(|kernel| kernel.ready[1].rotate_left(1)));
+    // The right one runs.
+    assert!(damaged(|kernel| block(kernel, 4).class = 1));
+    assert!(!damaged(|kernel| block(kernel, 4).class = 0));
+    assert!(!damaged(|kernel| {
+        kernel.processes[4] = None;
+        kernel.running = 0;
+    }));
+    // Ticks and classes.
+    for (process, ticks, sound) in [(4, 1, true), (4, 0, false), (4, 4, false), (5, 1, true), (6, 2, true), (6, 0, false), (7, 4, false)] {
+        assert_eq!(damaged(|kernel| block(kernel, process).ticks = ticks), sound);
+    }
+    for waiter in 1..=3 {
+        assert!(!damaged(|kernel| block(kernel, waiter).ticks = 2));
+        assert!(damaged(|kernel| block(kernel, waiter).class = 0));
+        assert!(!damaged(|kernel| block(kernel, waiter).class = 5));
+    }
+    assert!(!damaged(|kernel| block(kernel, 4).class = 5));
+    // Buffers.
+    let held = |buffer: usize, length: usize| Message { buffer, bytes: vec![0; length] };
+    assert!(damaged(|kernel| block(kernel, 5).hand = Some(held(31, 512))));
+    assert!(!damaged(|kernel| block(kernel, 5).hand = Some(held(31, 513))));
+    assert!(!damaged(|kernel| block(kernel, 5).hand = Some(held(0, 4))));
+    assert!(!damaged(|kernel| block(kernel, 5).hand = Some(held(2, 0))));
+    assert!(!damaged(|kernel| block(kernel, 1).hand = Some(held(31, 1))));
+    assert!(damaged(|kernel| block(kernel, 2).hand = None));
+    assert!(!damaged(|kernel| kernel.mailboxes[1].messages.push_back(held(3, 0))));
+    assert!(!damaged(|kernel| kernel.mailboxes[1].messages.push_back(held(1, 0))));
+    // Mailboxes and semaphores.
+    assert!(damaged(|kernel| kernel.mailboxes[1].messages.extend((10..18).map(|buffer| held(buffer, 1)))));
+    assert!(!damaged(|kernel| kernel.mailboxes[1].messages.extend((10..19).map(|buffer| held(buffer, 1)))));
+    assert!(!damaged(|kernel| kernel.mailboxes[9].messages.push_back(held(10, 1))));
+    assert!(!damaged(|kernel| kernel.semaphores[15].count = 1));
+    assert!(damaged(|kernel| kernel.semaphores[14].count = 65_535));
+}
+
+/// Changes some bytes of the image of `busy`; whether it is still an image of a sound state.
+fn rewritten(changes: &[(usize, u8)]) -> bool {
+    let mut area = image(&busy());
+    for &(place, byte) in changes {
+        area[place] = byte;
+    }
+    decide(&area).is_some()
+}
+
+#[test]
+fn bytes_by_hand() {
+    let (next, before) = (65, 134);
+    assert!(rewritten(&[]));
+    // 6 before 5 in class 1, linked rightly and then in one direction alone.
+    let swapped = [(next + 33, 6), (next + 6, 5), (next + 5, 33), (before + 33, 5), (before + 5, 6), (before + 6, 33)];
+    assert!(rewritten(&swapped));
+    assert!(!rewritten(&swapped[..3]));
+    assert!(!rewritten(&swapped[3..]));
+    // 7 leaves class 0, but is then nowhere; unused with all that belongs to it, it is right.
+    let alone = [(next + 32, 32), (next + 7, 7), (before + 32, 32), (before + 7, 7), (203, 0b10)];
+    assert!(!rewritten(&alone));
+    assert!(rewritten(&[&alone[..], &[(33 + 7, 0), (207, 0x80)]].concat()));
+    assert!(!rewritten(&[&alone[..], &[(33 + 7, 0)]].concat()));
+    assert!(!rewritten(&[&alone[..], &[(207, 0x80)]].concat()));
+    // A ring that doesn't reach its head, that reaches another head, or that has a node out of range.
+    assert!(!rewritten(&[(next + 6, 5)]));
+    assert!(!rewritten(&[(next + 6, 6)]));
+    assert!(!rewritten(&[(next + 6, 34), (before + 34, 6)]));
+    assert!(!rewritten(&[(next + 34, 35), (next + 35, 34), (before + 34, 35), (before + 35, 34)]));
+    assert!(!rewritten(&[(next + 6, 69)]));
+    assert!(!rewritten(&[(next + 6, 255)]));
+    // Process 0 and an unused one carry zeros, as does the hand where its bit is off.
+    assert!(!rewritten(&[(1, 1)]));
+    assert!(!rewritten(&[(33, 3)]));
+    assert!(!rewritten(&[(1 + 31, 1)]));
+    assert!(!rewritten(&[(33 + 31, 3)]));
+    assert!(!rewritten(&[(307 + 5, 31)]));
+    assert!(!rewritten(&[(307, 31)]));
+    // A hand takes a free buffer with all its bits; the same in the hand of an unused process or of 0.
+    let full = |process: u8| [(307 + usize::from(process), 31), (339 + usize::from(process / 8), 0), (410, 0x7f)];
+    let bits = |process: u8| (339 + usize::from(process / 8), image(&busy())[339 + usize::from(process / 8)] | 1 << (process % 8));
+    for (process, sound) in [(5, true), (7, true), (1, false), (3, false), (0, false), (31, false)] {
+        assert_eq!(rewritten(&[&full(process)[..], &[bits(process)]].concat()), sound, "hand of {process}");
+    }
+    // Bits that disagree with the places.
+    assert!(!rewritten(&[(203, 0b1)]));
+    assert!(!rewritten(&[(203, 0b111)]));
+    assert!(!rewritten(&[(203 + 3, 0x80)]));
+    assert!(!rewritten(&[(207, image(&busy())[207] | 1)]));
+    assert!(!rewritten(&[(407, image(&busy())[407] | 4)]));
+    // Lengths: 4 in the hand of 2; a free buffer has 0.
+    assert!(rewritten(&[(343, 0), (344, 2)]));
+    assert!(!rewritten(&[(343, 1), (344, 2)]));
+    assert!(!rewritten(&[(343 + 62, 1)]));
+}
