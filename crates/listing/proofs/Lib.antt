@@ -1,0 +1,3 @@
+pub mod Filled
+pub mod Listed
+pub mod Theorems

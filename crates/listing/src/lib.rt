@@ -1,0 +1,73 @@
+// The listing: one row per process, written into a table of rows that is lent.
+ghost use mathlib.Core.Path.{_≡_};
+ghost use Rattle.kernel.specs.Judged.{Judged, refusedWith};
+ghost use Rattle.listing.specs.Allowed.{refusals, allowed};
+ghost use Rattle.listing.specs.Listed.{Lists};
+use kernel::Answer;
+use kernel::Kernel;
+use kernel::Verdict;
+use rows::Row;
+
+const PROCESSES: u32 = sizes::PROCESSES as u32;
+
+// The table must have a row for each process.
+fn judge(k: Kernel, rows: usize) -> Verdict
+    ensures { λ r. ⌜ Judged (refusals rows) k r ⌝ }
+{
+    if !k.is_sound() {
+        return Verdict {
+            code: 14,
+            number: 0,
+        };
+    }
+    if rows < PROCESSES as usize {
+        return Verdict {
+            code: 9,
+            number: PROCESSES,
+        };
+    }
+    Verdict { code: 0, number: 0 }
+}
+
+// How many rows are written: none where the listing is refused.
+fn count(v: Verdict) -> u32
+    ensures { λ r. ⌜ r ≡ allowed v ⌝ }
+{
+    if v.code == 0 {
+        return PROCESSES;
+    }
+    0
+}
+
+// The verdict with the process that runs; code 14 comes with running 0.
+fn answer(k: Kernel, v: Verdict) -> Answer
+    ensures { λ r. ⌜ r ≡ refusedWith k v .answer ⌝ }
+{
+    let p = k.procs;
+    let runner = p.running;
+    let mut running = runner.0 as u32;
+    if v.code == 14 {
+        running = 0;
+    }
+    Answer {
+        code: v.code,
+        number: v.number,
+        running,
+    }
+}
+
+// Row i of the table becomes the row of process i; later rows stay, and all do where the listing is refused.
+#[no_mangle]
+pub extern "C" fn csengadrul_listing(state: &[u8], rows: &mut [Row]) -> Answer
+    ensures { λ r. ⌜ Lists (now (rows .entry)) (now (rows .exit)) (now (state .entry)) r ⌝ }
+{
+    let k = image::read(state);
+    let v = judge(k, rows.len());
+    let n = count(v);
+    let mut i = 0u32;
+    while i < n {
+        rows[i as usize] = rows::row_of(k, i);
+        i += 1;
+    }
+    answer(k, v)
+}
