@@ -46,7 +46,7 @@ pub struct Request {
     pub length: u32,
 }
 
-const LARGEST_ROOM: u32 = 512;
+pub const LARGEST_ROOM: u32 = 512;
 
 // A request with no bytes.
 fn asking(word: u32, number: u32) -> Request

@@ -1,0 +1,5 @@
+pub mod Asked
+pub mod Turns
+pub mod Texts
+pub mod Theorems
+pub mod Examples

@@ -1,0 +1,4 @@
+pub mod Reply
+pub mod Line
+pub mod Asked
+pub mod Theorems

@@ -1,0 +1,54 @@
+-- "The replay desk": what the plain kernel's desk writes for the lines of a script, and where it then stands.
+-- Assumes nothing.
+use Prim.Native.Nat.{ℕ}
+use mathlib.Core.Bool.{Bool, true, false, _&&_}
+use mathlib.Core.List.{List, [], _∷_}
+use mathlib.Core.Option.{Option, none, some}
+use lib.Dec.{eqb}
+use Rattle.lists.specs.Lists.{if_then_else_}
+use Rattle.plain.specs.Calls.{Call, create, stop, end, yield, class, tick, send, receive, read, release, signal, wait, Answer, Outcome, step}
+use Rattle.plain.specs.State.{State}
+use Rattle.answers.specs.Answer.{line, readLine, bad}
+use Rattle.script.specs.Grammar as Grammar
+
+abbrev pub isRead : Call → Bool
+isRead (create c) = false
+isRead (stop p) = false
+isRead end = false
+isRead yield = false
+isRead (class c) = false
+isRead tick = false
+isRead (send m b) = false
+isRead (receive m) = false
+isRead (read n) = true
+isRead release = false
+isRead (signal k) = false
+isRead (wait k) = false
+
+-- "code, number, running .. A successful read adds a space and the message in lowercase hex."
+abbrev pub textOf : Call → Answer → List ℕ → List ℕ
+textOf c a message = if isRead c && eqb (a .code) 0 then readLine a message else line a
+
+-- the line that is written, and the state after it
+pub record Reply : Type 0 where
+  pub text : List ℕ
+  pub next : State
+
+-- "Any other line .. gives `bad` and changes nothing."
+abbrev pub replyTo : State → Option Call → Reply
+replyTo s none = record { text = bad; next = s }
+replyTo s (some c) =
+    let o : Outcome = step s c in
+    record { text = textOf c (o .answer) (o .message); next = o .next }
+
+abbrev pub reply : State → List ℕ → Reply
+reply s line = replyTo s (Grammar.call line)
+
+-- "writes one line per line read"
+abbrev pub replies : State → List (List ℕ) → List (List ℕ)
+replies s [] = []
+replies s (l ∷ ls) = reply s l .text ∷ replies (reply s l .next) ls
+
+abbrev pub standing : State → List (List ℕ) → State
+standing s [] = s
+standing s (l ∷ ls) = standing (reply s l .next) ls
