@@ -1,0 +1,281 @@
+/* A kernel in plain C, for comparison: the state behind a pointer, changed in place, nothing checked
+ * about it. Each call gives document 01's answer on every sound state. */
+#ifndef BENCH_KERNEL_H
+#define BENCH_KERNEL_H
+
+#include "csengadrul.h"
+
+#include <string.h>
+
+#define PROCESS_NODES (CSENGADRUL_PROCESSES + CSENGADRUL_CLASSES + CSENGADRUL_MAILBOXES + CSENGADRUL_SEMAPHORES)
+#define BUFFER_NODES (CSENGADRUL_BUFFERS + CSENGADRUL_MAILBOXES)
+#define CLASS_HEAD CSENGADRUL_PROCESSES
+#define MAILBOX_HEAD (CLASS_HEAD + CSENGADRUL_CLASSES)
+#define SEMAPHORE_HEAD (MAILBOX_HEAD + CSENGADRUL_MAILBOXES)
+#define BOX_HEAD CSENGADRUL_BUFFERS
+
+/* Rings of nodes, as docs/IMAGE.md has them. */
+struct kernel {
+    uint8_t running;
+    uint8_t class_of[CSENGADRUL_PROCESSES];
+    uint8_t ticks[CSENGADRUL_PROCESSES];
+    uint8_t next[PROCESS_NODES];
+    uint8_t before[PROCESS_NODES];
+    uint32_t ready;
+    uint32_t unused;
+    uint8_t box_next[BUFFER_NODES];
+    uint8_t box_before[BUFFER_NODES];
+    uint8_t hand[CSENGADRUL_PROCESSES];
+    uint32_t full;
+    uint16_t length[CSENGADRUL_BUFFERS];
+    uint32_t free;
+    uint16_t count[CSENGADRUL_SEMAPHORES];
+};
+
+static csengadrul_answer answer(const struct kernel *k, uint32_t code, uint32_t number) {
+    csengadrul_answer a;
+    a.code = code;
+    a.number = number;
+    a.running = k->running;
+    return a;
+}
+
+/* Between two neighbours. */
+static void link_in(uint8_t *next, uint8_t *before, uint8_t left, uint8_t node, uint8_t right) {
+    next[left] = node;
+    before[node] = left;
+    next[node] = right;
+    before[right] = node;
+}
+
+static void link_out(uint8_t *next, uint8_t *before, uint8_t node) {
+    uint8_t left = before[node], right = next[node];
+    next[left] = right;
+    before[right] = left;
+    next[node] = node;
+    before[node] = node;
+}
+
+static void to_rear(struct kernel *k, uint8_t head, uint8_t p) {
+    link_in(k->next, k->before, k->before[head], p, head);
+}
+
+static void to_front(struct kernel *k, uint8_t head, uint8_t p) {
+    link_in(k->next, k->before, head, p, k->next[head]);
+}
+
+/* Out of a class's queue, with its bit. */
+static void leave(struct kernel *k, uint8_t p) {
+    uint8_t head = CLASS_HEAD + k->class_of[p];
+    link_out(k->next, k->before, p);
+    if (k->next[head] == head) k->ready &= ~(1u << k->class_of[p]);
+}
+
+static void choose(struct kernel *k) {
+    uint8_t class_number;
+    k->running = 0;
+    if (!k->ready) return;
+    class_number = (uint8_t)(31 - __builtin_clz(k->ready));
+    k->running = k->next[CLASS_HEAD + class_number];
+    leave(k, k->running);
+}
+
+static void join_class(struct kernel *k, uint8_t p) {
+    k->ticks[p] = CSENGADRUL_SLICE;
+    to_rear(k, (uint8_t)(CLASS_HEAD + k->class_of[p]), p);
+    k->ready |= 1u << k->class_of[p];
+}
+
+static void make_ready(struct kernel *k, uint8_t p) {
+    uint8_t ran = k->running;
+    if (ran && k->class_of[p] <= k->class_of[ran]) {
+        join_class(k, p);
+        return;
+    }
+    k->ticks[p] = CSENGADRUL_SLICE;
+    if (ran) {
+        to_front(k, (uint8_t)(CLASS_HEAD + k->class_of[ran]), ran);
+        k->ready |= 1u << k->class_of[ran];
+    }
+    k->running = p;
+}
+
+static void pause_at(struct kernel *k, uint8_t head) {
+    k->ticks[k->running] = CSENGADRUL_SLICE;
+    to_rear(k, head, k->running);
+    choose(k);
+}
+
+static void free_hand(struct kernel *k, uint8_t p) {
+    uint8_t b = k->hand[p];
+    k->full &= ~(1u << p);
+    k->hand[p] = 0;
+    k->length[b] = 0;
+    k->free |= 1u << b;
+}
+
+static void take_out(struct kernel *k, uint8_t p) {
+    if (k->full >> p & 1) free_hand(k, p);
+    if (p == k->running) choose(k);
+    else leave(k, p);
+    k->class_of[p] = 0;
+    k->ticks[p] = 0;
+    k->unused |= 1u << p;
+}
+
+static void kernel_fresh(struct kernel *k) {
+    int i;
+    memset(k, 0, sizeof *k);
+    for (i = 0; i < PROCESS_NODES; i++) k->next[i] = k->before[i] = (uint8_t)i;
+    for (i = 0; i < BUFFER_NODES; i++) k->box_next[i] = k->box_before[i] = (uint8_t)i;
+    k->unused = ~1u;
+    k->free = ~0u;
+}
+
+static csengadrul_answer kernel_create(struct kernel *k, uint32_t class_number) {
+    uint8_t p;
+    if (class_number >= CSENGADRUL_CLASSES) return answer(k, CSENGADRUL_NO_CLASS, 0);
+    if (!k->unused) return answer(k, CSENGADRUL_ALL_PROCESSES, 0);
+    p = (uint8_t)__builtin_ctz(k->unused);
+    k->unused &= k->unused - 1;
+    k->class_of[p] = (uint8_t)class_number;
+    make_ready(k, p);
+    return answer(k, CSENGADRUL_DONE, p);
+}
+
+static csengadrul_answer kernel_stop(struct kernel *k, uint32_t process) {
+    if (process == 0 || process >= CSENGADRUL_PROCESSES || k->unused >> process & 1)
+        return answer(k, CSENGADRUL_NO_PROCESS, 0);
+    take_out(k, (uint8_t)process);
+    return answer(k, CSENGADRUL_DONE, 0);
+}
+
+static csengadrul_answer kernel_end(struct kernel *k) {
+    if (!k->running) return answer(k, CSENGADRUL_NO_CALLER, 0);
+    take_out(k, k->running);
+    return answer(k, CSENGADRUL_DONE, 0);
+}
+
+static csengadrul_answer kernel_yield(struct kernel *k) {
+    if (!k->running) return answer(k, CSENGADRUL_NO_CALLER, 0);
+    join_class(k, k->running);
+    choose(k);
+    return answer(k, CSENGADRUL_DONE, 0);
+}
+
+static csengadrul_answer kernel_class(struct kernel *k, uint32_t class_number) {
+    if (!k->running) return answer(k, CSENGADRUL_NO_CALLER, 0);
+    if (class_number >= CSENGADRUL_CLASSES) return answer(k, CSENGADRUL_NO_CLASS, 0);
+    if (class_number != k->class_of[k->running]) {
+        k->class_of[k->running] = (uint8_t)class_number;
+        join_class(k, k->running);
+        choose(k);
+    }
+    return answer(k, CSENGADRUL_DONE, 0);
+}
+
+static csengadrul_answer kernel_tick(struct kernel *k) {
+    if (k->running && --k->ticks[k->running] == 0) {
+        join_class(k, k->running);
+        choose(k);
+    }
+    return answer(k, CSENGADRUL_DONE, 0);
+}
+
+static int box_full(const struct kernel *k, uint8_t head) {
+    uint8_t b = k->box_next[head];
+    int messages = 0;
+    for (; b != head; b = k->box_next[b]) messages++;
+    return messages >= CSENGADRUL_MAILBOX_SIZE;
+}
+
+static csengadrul_answer kernel_send(struct kernel *k, uint8_t *store, size_t store_length, uint32_t mailbox,
+                                     const uint8_t *message, size_t length) {
+    uint8_t b, head, waiters, p;
+    if (store_length != CSENGADRUL_STORE_SIZE) return answer(k, CSENGADRUL_OTHER_STORE, 0);
+    if (mailbox >= CSENGADRUL_MAILBOXES) return answer(k, CSENGADRUL_NO_MAILBOX, 0);
+    if (length > CSENGADRUL_MESSAGE_SIZE) return answer(k, CSENGADRUL_LONG_MESSAGE, 0);
+    head = (uint8_t)(BOX_HEAD + mailbox);
+    if (box_full(k, head)) return answer(k, CSENGADRUL_MAILBOX_FULL, 0);
+    if (!k->free) return answer(k, CSENGADRUL_NO_BUFFER, 0);
+    b = (uint8_t)__builtin_ctz(k->free);
+    k->free &= k->free - 1;
+    k->length[b] = (uint16_t)length;
+    memcpy(store + CSENGADRUL_MESSAGE_SIZE * b, message, length);
+    waiters = (uint8_t)(MAILBOX_HEAD + mailbox);
+    p = k->next[waiters];
+    if (p == waiters) {
+        link_in(k->box_next, k->box_before, k->box_before[head], b, head);
+    } else {
+        link_out(k->next, k->before, p);
+        k->hand[p] = b;
+        k->full |= 1u << p;
+        make_ready(k, p);
+    }
+    return answer(k, CSENGADRUL_DONE, 0);
+}
+
+static csengadrul_answer kernel_receive(struct kernel *k, uint32_t mailbox) {
+    uint8_t head, b, p = k->running;
+    if (!p) return answer(k, CSENGADRUL_NO_CALLER, 0);
+    if (mailbox >= CSENGADRUL_MAILBOXES) return answer(k, CSENGADRUL_NO_MAILBOX, 0);
+    if (k->full >> p & 1) return answer(k, CSENGADRUL_HAND_FULL, 0);
+    head = (uint8_t)(BOX_HEAD + mailbox);
+    b = k->box_next[head];
+    if (b == head) {
+        pause_at(k, (uint8_t)(MAILBOX_HEAD + mailbox));
+        return answer(k, CSENGADRUL_WAITS, 0);
+    }
+    link_out(k->box_next, k->box_before, b);
+    k->hand[p] = b;
+    k->full |= 1u << p;
+    return answer(k, CSENGADRUL_DONE, k->length[b]);
+}
+
+static csengadrul_answer kernel_read(const struct kernel *k, const uint8_t *store, size_t store_length, uint8_t *room,
+                                     size_t room_length) {
+    uint8_t p = k->running, b;
+    if (store_length != CSENGADRUL_STORE_SIZE) return answer(k, CSENGADRUL_OTHER_STORE, 0);
+    if (!p) return answer(k, CSENGADRUL_NO_CALLER, 0);
+    if (!(k->full >> p & 1)) return answer(k, CSENGADRUL_HAND_EMPTY, 0);
+    b = k->hand[p];
+    if (room_length < k->length[b]) return answer(k, CSENGADRUL_SHORT_ROOM, k->length[b]);
+    memcpy(room, store + CSENGADRUL_MESSAGE_SIZE * b, k->length[b]);
+    return answer(k, CSENGADRUL_DONE, k->length[b]);
+}
+
+static csengadrul_answer kernel_release(struct kernel *k) {
+    uint8_t p = k->running;
+    if (!p) return answer(k, CSENGADRUL_NO_CALLER, 0);
+    if (!(k->full >> p & 1)) return answer(k, CSENGADRUL_HAND_EMPTY, 0);
+    free_hand(k, p);
+    return answer(k, CSENGADRUL_DONE, 0);
+}
+
+static csengadrul_answer kernel_signal(struct kernel *k, uint32_t semaphore) {
+    uint8_t head, p;
+    if (semaphore >= CSENGADRUL_SEMAPHORES) return answer(k, CSENGADRUL_NO_SEMAPHORE, 0);
+    if (k->count[semaphore] == CSENGADRUL_COUNT_LIMIT) return answer(k, CSENGADRUL_COUNT_FULL, 0);
+    head = (uint8_t)(SEMAPHORE_HEAD + semaphore);
+    p = k->next[head];
+    if (p == head) {
+        k->count[semaphore]++;
+    } else {
+        link_out(k->next, k->before, p);
+        make_ready(k, p);
+    }
+    return answer(k, CSENGADRUL_DONE, 0);
+}
+
+static csengadrul_answer kernel_wait(struct kernel *k, uint32_t semaphore) {
+    if (!k->running) return answer(k, CSENGADRUL_NO_CALLER, 0);
+    if (semaphore >= CSENGADRUL_SEMAPHORES) return answer(k, CSENGADRUL_NO_SEMAPHORE, 0);
+    if (k->count[semaphore]) {
+        k->count[semaphore]--;
+        return answer(k, CSENGADRUL_DONE, 0);
+    }
+    pause_at(k, (uint8_t)(SEMAPHORE_HEAD + semaphore));
+    return answer(k, CSENGADRUL_WAITS, 0);
+}
+
+#endif

@@ -1,0 +1,198 @@
+/* One program for three kernels behind the board's functions: the board, in_place.c and checked.c.
+ *
+ *   measure answers SEED CALLS      makes random calls and prints every answer and every message read
+ *   measure damage SEED IMAGES      prints whether each of that many damaged images is refused (not in_place)
+ *   measure names                   prints the names of the calls below
+ *   measure make NAME TIMES MADE    restores the same prepared state so many times, and makes that call in it
+ *                                   the first MADE times
+ */
+#include "csengadrul.h"
+
+#include <stdio.h>
+#include <stdlib.h>
+#include <string.h>
+
+#define AREA 512 /* enough for an image, and for the struct of in_place.c */
+#define S state, CSENGADRUL_STATE_SIZE
+#define STORE store, sizeof store
+
+static union {
+    uint8_t bytes[AREA];
+    uint64_t aligned;
+} lent, prepared;
+static uint8_t *const state = lent.bytes;
+static uint8_t store[CSENGADRUL_STORE_SIZE], message[600], room[600];
+
+static uint32_t seed;
+
+static uint32_t below(uint32_t limit) {
+    seed = seed * 1664525u + 1013904223u;
+    return (uint32_t)((uint64_t)(seed >> 4) * limit >> 28);
+}
+
+/* Mostly small numbers, so that queues grow; now and then one past the last. */
+static uint32_t pick(uint32_t limit) {
+    return below(8) ? below(4) % limit : below(limit + 1);
+}
+
+static csengadrul_answer random_call(uint32_t *read_length) {
+    uint32_t length, i;
+    csengadrul_answer a;
+    *read_length = 0;
+    switch (below(20)) {
+    case 0:
+    case 1:
+    case 2: return csengadrul_create(S, pick(CSENGADRUL_CLASSES));
+    case 3: return below(4) ? csengadrul_tick(S) : csengadrul_stop(S, below(33));
+    case 4: return below(4) ? csengadrul_tick(S) : csengadrul_end(S);
+    case 5: return csengadrul_yield(S);
+    case 6: return csengadrul_class(S, pick(CSENGADRUL_CLASSES));
+    case 7:
+    case 8: return csengadrul_tick(S);
+    case 9:
+    case 10:
+    case 11:
+    case 12:
+        length = below(4) ? below(20) : below(520);
+        for (i = 0; i < length; i++) message[i] = (uint8_t)below(256);
+        return csengadrul_send(S, STORE, pick(CSENGADRUL_MAILBOXES), message, length);
+    case 13:
+    case 14: return csengadrul_receive(S, pick(CSENGADRUL_MAILBOXES));
+    case 15:
+        a = csengadrul_read(S, STORE, room, below(2) ? 512 : below(20));
+        if (a.code == CSENGADRUL_DONE) *read_length = a.number;
+        return a;
+    case 16: return csengadrul_release(S);
+    case 17:
+    case 18: return csengadrul_signal(S, pick(CSENGADRUL_SEMAPHORES));
+    default: return csengadrul_wait(S, pick(CSENGADRUL_SEMAPHORES));
+    }
+}
+
+static void answers(unsigned long calls) {
+    unsigned long i;
+    uint32_t length, j;
+    for (i = 0; i < calls; i++) {
+        csengadrul_answer a = i % 500 ? random_call(&length) : csengadrul_fresh(S);
+        printf("%lu %lu %lu", (unsigned long)a.code, (unsigned long)a.number, (unsigned long)a.running);
+        for (j = 0; i % 500 && j < length; j++) printf(" %02x", room[j]);
+        printf("\n");
+    }
+}
+
+static void damage(unsigned long images) {
+    unsigned long i;
+    uint32_t length, changes;
+    csengadrul_fresh(S);
+    for (i = 0; i < images; i++) {
+        random_call(&length);
+        memcpy(prepared.bytes, state, AREA);
+        for (changes = below(3); changes < 3; changes++) {
+            uint8_t *at = &state[below(CSENGADRUL_STATE_SIZE)];
+            *at = (uint8_t)(below(3) ? *at ^ 1u << below(7) : below(70));
+        }
+        printf("%lu\n", (unsigned long)csengadrul_tick(S).code);
+        memcpy(state, prepared.bytes, AREA);
+    }
+}
+
+/* Process 9 of class 2 runs; 12 is ready behind it, four each in classes 0 and 1; 3 waits at semaphore
+ * 5, 6 at mailbox 4; mailbox 3 has five messages of 16 bytes, mailbox 7 three of 512; semaphore 6
+ * counts 2. */
+static void prepare(void) {
+    uint32_t i;
+    csengadrul_fresh(S);
+    for (i = 0; i < 12; i++) csengadrul_create(S, i % 3);
+    csengadrul_wait(S, 5);
+    csengadrul_receive(S, 4);
+    for (i = 0; i < 5; i++) csengadrul_send(S, STORE, 3, message, 16);
+    for (i = 0; i < 3; i++) csengadrul_send(S, STORE, 7, message, 512);
+    csengadrul_signal(S, 6);
+    csengadrul_signal(S, 6);
+}
+
+static void prepare_nobody(void) {
+    csengadrul_fresh(S);
+}
+
+/* A free buffer's bit is off. */
+static void prepare_damaged(void) {
+    prepare();
+    state[410] ^= 0x80;
+}
+
+static void prepare_last_tick(void) {
+    prepare();
+    csengadrul_tick(S);
+    csengadrul_tick(S);
+}
+
+static void prepare_hand_16(void) {
+    prepare();
+    csengadrul_receive(S, 3);
+}
+
+static void prepare_hand_512(void) {
+    prepare();
+    csengadrul_receive(S, 7);
+}
+
+/* name in the table, how the state is prepared, the call, the code that it gives */
+#define CALLS(row) \
+    row("fresh", prepare, csengadrul_fresh(S), CSENGADRUL_DONE) \
+    row("create", prepare, csengadrul_create(S, 2), CSENGADRUL_DONE) \
+    row("create, preempting", prepare, csengadrul_create(S, 3), CSENGADRUL_DONE) \
+    row("stop", prepare, csengadrul_stop(S, 7), CSENGADRUL_DONE) \
+    row("end", prepare, csengadrul_end(S), CSENGADRUL_DONE) \
+    row("yield", prepare, csengadrul_yield(S), CSENGADRUL_DONE) \
+    row("class", prepare, csengadrul_class(S, 1), CSENGADRUL_DONE) \
+    row("tick", prepare, csengadrul_tick(S), CSENGADRUL_DONE) \
+    row("tick, the last", prepare_last_tick, csengadrul_tick(S), CSENGADRUL_DONE) \
+    row("send of 16 bytes", prepare, csengadrul_send(S, STORE, 3, message, 16), CSENGADRUL_DONE) \
+    row("send of 512 bytes", prepare, csengadrul_send(S, STORE, 3, message, 512), CSENGADRUL_DONE) \
+    row("send of 16 bytes to a waiter", prepare, csengadrul_send(S, STORE, 4, message, 16), CSENGADRUL_DONE) \
+    row("receive", prepare, csengadrul_receive(S, 3), CSENGADRUL_DONE) \
+    row("receive, waiting", prepare, csengadrul_receive(S, 9), CSENGADRUL_WAITS) \
+    row("read of 16 bytes", prepare_hand_16, csengadrul_read(S, STORE, room, 512), CSENGADRUL_DONE) \
+    row("read of 512 bytes", prepare_hand_512, csengadrul_read(S, STORE, room, 512), CSENGADRUL_DONE) \
+    row("release", prepare_hand_16, csengadrul_release(S), CSENGADRUL_DONE) \
+    row("signal", prepare, csengadrul_signal(S, 6), CSENGADRUL_DONE) \
+    row("signal, waking", prepare, csengadrul_signal(S, 5), CSENGADRUL_DONE) \
+    row("wait", prepare, csengadrul_wait(S, 6), CSENGADRUL_DONE) \
+    row("wait, waiting", prepare, csengadrul_wait(S, 9), CSENGADRUL_WAITS) \
+    row("refused: yield of nobody", prepare_nobody, csengadrul_yield(S), CSENGADRUL_NO_CALLER) \
+    row("refused: a damaged state", prepare_damaged, csengadrul_yield(S), CSENGADRUL_NOT_SOUND)
+
+#define PRINT_NAME(name, before, call, code) printf("%s\n", name);
+
+/* Restores the state so many times, and makes the call in the first of them. */
+#define REPEAT(name, before, call, expected) \
+    if (strcmp(wanted, name) == 0) { \
+        before(); \
+        memcpy(prepared.bytes, state, AREA); \
+        for (i = 0; i < times; i++) { \
+            memcpy(state, prepared.bytes, AREA); \
+            if (i < made) good &= (call).code == expected; \
+        } \
+        return good; \
+    }
+
+static int repeat(const char *wanted, int times, int made) {
+    int i, good = 1;
+    CALLS(REPEAT)
+    return 0;
+}
+
+int main(int words, char **word) {
+    if (words == 2 && strcmp(word[1], "names") == 0) {
+        CALLS(PRINT_NAME)
+        return 0;
+    }
+    if (words == 5 && strcmp(word[1], "make") == 0) return !repeat(word[2], atoi(word[3]), atoi(word[4]));
+    if (words != 4) return 2;
+    seed = (uint32_t)atoi(word[2]);
+    if (strcmp(word[1], "answers") == 0) answers((unsigned long)atoi(word[3]));
+    else if (strcmp(word[1], "damage") == 0) damage((unsigned long)atoi(word[3]));
+    else return 2;
+    return 0;
+}

@@ -1,0 +1,189 @@
+/*
+ * Csengadrul for C firmware: the calls of the kernel on numbers and byte areas.
+ *
+ * The whole kernel state lies in one area of CSENGADRUL_STATE_SIZE bytes that
+ * the firmware keeps, the state area; docs/IMAGE.md says what stands at which
+ * byte. Message bytes lie in a second area of CSENGADRUL_STORE_SIZE bytes, the
+ * store. Both are lent to each call that needs them, and a call touches no other
+ * memory than the areas lent to it and its own stack.
+ *
+ * Every area is a pointer and a length.
+ *  - The areas of one call do not overlap, and each has as many bytes as its
+ *    length says. Only the firmware can see to this.
+ *  - An area of length 0 may be given as a null pointer.
+ *  - No area needs any alignment; the table of rows needs that of
+ *    csengadrul_row.
+ *  - There are no variables besides the areas. Calls on different areas do not
+ *    touch one another; a call must not begin while another one on the same
+ *    state area or store is under way, by an interrupt or on another processor.
+ *
+ * Every call answers, whatever the numbers are and whatever the areas hold.
+ * An area that is not CSENGADRUL_STATE_SIZE bytes long, or that holds no image
+ * of a sound state, is refused with CSENGADRUL_NOT_SOUND, and so is a damaged
+ * one at the next call. A refusal, which is every code but CSENGADRUL_DONE and
+ * CSENGADRUL_WAITS, leaves every byte of every area as it was. Where several
+ * refusals hold at once the first one in the order that stands with the call is
+ * given.
+ *
+ * "The caller" is the running process. A buffer "in hand" is the message that a
+ * process received and has not released. "Choose" means: the first of the highest
+ * class with anyone ready runs, else process 0. "Made ready" means: it joins the
+ * rear of its class with a full slice, and runs at once if its class is above the
+ * running one's or 0 runs; the process that ran then goes to the front of its
+ * class with the ticks it has left.
+ */
+#ifndef CSENGADRUL_H
+#define CSENGADRUL_H
+
+#include <stddef.h>
+#include <stdint.h>
+
+#ifdef __cplusplus
+extern "C" {
+#endif
+
+/* Sizes. */
+#define CSENGADRUL_STATE_SIZE 443    /* bytes of the state area */
+#define CSENGADRUL_STORE_SIZE 16384  /* bytes of the store */
+#define CSENGADRUL_MESSAGE_SIZE 512  /* bytes of the longest message */
+#define CSENGADRUL_PROCESSES 32      /* 0 to 31; 0 is the null process */
+#define CSENGADRUL_CLASSES 5         /* 0 to 4; 4 is the highest */
+#define CSENGADRUL_MAILBOXES 16      /* 0 to 15 */
+#define CSENGADRUL_MAILBOX_SIZE 8    /* messages queued in a mailbox */
+#define CSENGADRUL_BUFFERS 32        /* 0 to 31; buffer b begins at byte 512 b of the store */
+#define CSENGADRUL_SEMAPHORES 16     /* 0 to 15 */
+#define CSENGADRUL_COUNT_LIMIT 65535 /* the highest count of a semaphore */
+#define CSENGADRUL_SLICE 3           /* ticks of a full slice */
+
+/* Codes of an answer. */
+enum {
+    CSENGADRUL_DONE = 0,           /* done */
+    CSENGADRUL_NO_PROCESS = 1,     /* the process is 0, over 31 or unused */
+    CSENGADRUL_NO_CLASS = 2,       /* the class is over 4 */
+    CSENGADRUL_NO_MAILBOX = 3,     /* the mailbox is over 15 */
+    CSENGADRUL_NO_SEMAPHORE = 4,   /* the semaphore is over 15 */
+    CSENGADRUL_NO_CALLER = 5,      /* only a process may call this, and process 0 runs */
+    CSENGADRUL_LONG_MESSAGE = 6,   /* the message is over 512 bytes */
+    CSENGADRUL_HAND_FULL = 7,      /* the caller has a message in hand already */
+    CSENGADRUL_HAND_EMPTY = 8,     /* the caller has no message in hand */
+    CSENGADRUL_SHORT_ROOM = 9,     /* the room or the table is too short; number: the length needed */
+    CSENGADRUL_ALL_PROCESSES = 10, /* no process number is unused */
+    CSENGADRUL_MAILBOX_FULL = 11,  /* the mailbox holds 8 messages */
+    CSENGADRUL_NO_BUFFER = 12,     /* no buffer is free */
+    CSENGADRUL_COUNT_FULL = 13,    /* the semaphore counts 65,535 */
+    CSENGADRUL_NOT_SOUND = 14,     /* the state area holds no sound state; number and running are 0 */
+    CSENGADRUL_OTHER_STORE = 15,   /* the store is not 16,384 bytes long */
+    CSENGADRUL_WAITS = 32          /* done, and the caller waits now */
+};
+
+/* An answer. `number` is 0 where a call does not say what it is. `running` is the
+ * process that runs after the call. */
+typedef struct {
+    uint32_t code;
+    uint32_t number;
+    uint32_t running;
+} csengadrul_answer;
+
+/* Writes the fresh kernel: 0 runs, every other process is unused, all queues and
+ * mailboxes are empty, all counts 0.
+ * Answers 0 0 0. Refuses: 14 (the length only; what the area holds is not read).
+ * State: the fresh image, whatever was there before. */
+csengadrul_answer csengadrul_fresh(uint8_t *state, size_t state_length);
+
+/* The lowest unused number becomes a process of this class and is made ready.
+ * Number: the new process. Refuses: 14, 2, 10.
+ * State: the next image. */
+csengadrul_answer csengadrul_create(uint8_t *state, size_t state_length, uint32_t process_class);
+
+/* The process leaves its place, the buffer in its hand becomes free, its number
+ * unused; choose if it ran. Refuses: 14, 1.
+ * State: the next image. */
+csengadrul_answer csengadrul_stop(uint8_t *state, size_t state_length, uint32_t process);
+
+/* Does to the caller what csengadrul_stop does. Refuses: 14, 5.
+ * State: the next image. */
+csengadrul_answer csengadrul_end(uint8_t *state, size_t state_length);
+
+/* The caller joins the rear of its class with a full slice; choose.
+ * Refuses: 14, 5.
+ * State: the next image. */
+csengadrul_answer csengadrul_yield(uint8_t *state, size_t state_length);
+
+/* The caller changes to this class: it joins the rear there with a full slice;
+ * choose. With its own class nothing changes. Refuses: 14, 5, 2.
+ * State: the next image. */
+csengadrul_answer csengadrul_class(uint8_t *state, size_t state_length, uint32_t process_class);
+
+/* The timer: the caller has one tick less; at none left, as csengadrul_yield.
+ * While 0 runs nothing changes, and that is no refusal. Refuses: 14.
+ * State: the next image. */
+csengadrul_answer csengadrul_tick(uint8_t *state, size_t state_length);
+
+/* The lowest free buffer takes the message. If someone waits at the mailbox, the
+ * first waiter gets it in hand and is made ready; else it is queued there last.
+ * Refuses: 14, 15, 3, 6, 11, 12.
+ * State: the next image. Store: the message's own bytes, at the start of the
+ * buffer that took it; every other byte stays. Message: only read, and not where
+ * it is over 512 bytes. */
+csengadrul_answer csengadrul_send(uint8_t *state, size_t state_length, uint8_t *store, size_t store_length,
+                                  uint32_t mailbox, const uint8_t *message, size_t message_length);
+
+/* The first message of the mailbox goes into the caller's hand. Number: its
+ * length. If the mailbox is empty the caller joins the rear of its waiters;
+ * choose; code 32, number 0. Refuses: 14, 5, 3, 7.
+ * State: the next image. */
+csengadrul_answer csengadrul_receive(uint8_t *state, size_t state_length, uint32_t mailbox);
+
+/* Copies the message in the caller's hand to the start of the room. Number: its
+ * length. Refuses: 14, 15, 5, 8, 9 (number: the message's length).
+ * State and store: only read. Room: the message's bytes at its start; the rest
+ * stays, and is not touched. */
+csengadrul_answer csengadrul_read(const uint8_t *state, size_t state_length, const uint8_t *store, size_t store_length,
+                                  uint8_t *room, size_t room_length);
+
+/* The buffer in the caller's hand becomes free. Refuses: 14, 5, 8.
+ * State: the next image. */
+csengadrul_answer csengadrul_release(uint8_t *state, size_t state_length);
+
+/* The first waiter at the semaphore is made ready; with no waiter its count goes
+ * up by 1. Refuses: 14, 4, 13.
+ * State: the next image. */
+csengadrul_answer csengadrul_signal(uint8_t *state, size_t state_length, uint32_t semaphore);
+
+/* The semaphore's count goes down by 1. At 0 the caller joins the rear of its
+ * waiters instead; choose; code 32. Refuses: 14, 5, 4.
+ * State: the next image. */
+csengadrul_answer csengadrul_wait(uint8_t *state, size_t state_length, uint32_t semaphore);
+
+/* Where a process stands, in its row of the listing. */
+enum {
+    CSENGADRUL_UNUSED = 0,
+    CSENGADRUL_RUNNING = 1,
+    CSENGADRUL_READY = 2,
+    CSENGADRUL_AT_MAILBOX = 3,
+    CSENGADRUL_AT_SEMAPHORE = 4,
+    CSENGADRUL_STANDING_BY = 5 /* process 0 while another one runs */
+};
+
+/* A row of the listing. Process 0 has zeros after its place. */
+typedef struct {
+    uint8_t place;    /* one of the six above */
+    uint8_t which;    /* the class, mailbox or semaphore of that queue; 0 if unused, the class if running */
+    uint8_t position; /* the place in that queue, from 0; else 0 */
+    uint8_t class_;   /* its class */
+    uint8_t ticks;    /* its ticks left */
+    uint8_t full;     /* 1 if its hand holds a message, else 0 */
+    uint16_t length;  /* the length of the message in its hand; 0 for an empty hand */
+} csengadrul_row;
+
+/* Writes one row for each process, row i for process i.
+ * Answers 0 0 and the running process. Refuses: 14, 9 (number: 32) for fewer than
+ * 32 rows. `row_count` counts rows, not bytes.
+ * State: only read. Rows: the first 32 are written; later ones stay. */
+csengadrul_answer csengadrul_listing(const uint8_t *state, size_t state_length, csengadrul_row *rows, size_t row_count);
+
+#ifdef __cplusplus
+}
+#endif
+
+#endif

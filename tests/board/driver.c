@@ -1,0 +1,126 @@
+/* Makes the board's calls that come on standard input, and writes what came of each.
+ *
+ * In, for each call, the numbers with their lowest byte first:
+ *   1 byte   which call, as in lend.h
+ *   4 bytes  its number: class, process, mailbox or semaphore
+ *   2 bytes  length of the message, of the room, or rows of the table
+ *            then the message's bytes, for a send
+ * or the byte PUT and the bytes of a state area, which is then the one lent, or the byte FLUSH, which
+ * hands on all that was written.
+ *
+ * Out, for each call:
+ *   12 bytes  code, number, running
+ *   1 byte    0, or what went wrong: bits 0 to 4 for a guard byte beside an area that changed,
+ *             bit 7 for a message that changed
+ *   1 byte    REPLY, for whoever reads to know that both are in step
+ *   443 bytes the state area
+ *   4 bytes   the first byte of the store that changed, and how many from there to the last one
+ *             then these bytes
+ *             then the whole room, for a read, or the whole table, for a listing
+ *
+ * The store is zeros at first, a room is filled with ROOM_BYTE before each read, a table with ROW_BYTE. */
+#include "lend.h"
+
+#include <stdio.h>
+#include <stdlib.h>
+#include <string.h>
+
+#define PUT 100
+#define FLUSH 101
+#define REPLY 0xc5
+#define ROOM_BYTE 0x5c
+#define ROW_BYTE 0xee
+#define LONGEST 4096
+
+static uint8_t state[CSENGADRUL_STATE_SIZE];
+static uint8_t store[CSENGADRUL_STORE_SIZE];
+static uint8_t store_before[CSENGADRUL_STORE_SIZE];
+static uint8_t message[LONGEST];
+static uint8_t room[LONGEST];
+static csengadrul_row rows[LONGEST];
+
+static void take(void *to, size_t length) {
+    if (fread(to, 1, length, stdin) != length) exit(1);
+}
+
+static void give(const void *from, size_t length) {
+    if (fwrite(from, 1, length, stdout) != length) exit(1);
+}
+
+static uint32_t take_number(int bytes) {
+    uint8_t in[4];
+    uint32_t value = 0;
+    take(in, (size_t)bytes);
+    while (bytes-- > 0) value = value << 8 | in[bytes];
+    return value;
+}
+
+static void give_number(uint32_t value, int bytes) {
+    uint8_t out[4];
+    int i;
+    for (i = 0; i < bytes; i++) out[i] = (uint8_t)(value >> 8 * i);
+    give(out, (size_t)bytes);
+}
+
+static void give_store_change(int changed) {
+    size_t first = 0, last = sizeof store;
+    if (!changed) {
+        give_number(0, 4);
+        return;
+    }
+    while (store[first] == store_before[first]) first++;
+    while (store[last - 1] == store_before[last - 1]) last--;
+    give_number((uint32_t)first, 2);
+    give_number((uint32_t)(last - first), 2);
+    give(store + first, last - first);
+}
+
+static void lay(area *a, enum lies lies, size_t told, size_t bytes, void *content) {
+    a->lies = lies;
+    a->told = told;
+    a->bytes = bytes;
+    a->content = content;
+}
+
+static void make(enum call call, uint32_t number, size_t length, enum lies lies) {
+    area areas[KINDS];
+    outcome o;
+    lay(&areas[STATE], lies, sizeof state, sizeof state, state);
+    lay(&areas[STORE], lies, sizeof store, sizeof store, store);
+    lay(&areas[MESSAGE], lies, length, length, message);
+    lay(&areas[ROOM], lies, length, length, room);
+    lay(&areas[ROWS], lies, length, length * sizeof *rows, rows);
+    if (call == SEND || call == READ) memcpy(store_before, store, sizeof store);
+    if (call == READ) memset(room, ROOM_BYTE, length);
+    if (call == LISTING) memset(rows, ROW_BYTE, length * sizeof *rows);
+    o = lend(call, number, areas);
+    give_number(o.answer.code, 4);
+    give_number(o.answer.number, 4);
+    give_number(o.answer.running, 4);
+    give_number(o.escaped | (o.changed >> MESSAGE & 1) << 7, 1);
+    give_number(REPLY, 1);
+    give(state, sizeof state);
+    give_store_change(o.changed >> STORE & 1);
+    if (call == READ) give(room, length);
+    if (call == LISTING) give(rows, length * sizeof *rows);
+}
+
+int main(void) {
+    unsigned long turn;
+    uint8_t which;
+    if (!lend_begin()) return 1;
+    for (turn = 0; fread(&which, 1, 1, stdin) == 1; turn++) {
+        if (which == PUT) {
+            take(state, sizeof state);
+        } else if (which == FLUSH) {
+            if (fflush(stdout) != 0) return 1;
+        } else {
+            uint32_t number = take_number(4);
+            size_t length = take_number(2);
+            if (which > LISTING || length > LONGEST) return 1;
+            if (which == SEND) take(message, length);
+            make((enum call)which, number, length, turn % 2 ? AT_THE_END : AT_THE_START);
+        }
+    }
+    return fflush(stdout) != 0;
+}

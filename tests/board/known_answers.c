@@ -1,0 +1,486 @@
+/* The board's calls with answers that are known beforehand: the samples of document 01, every code,
+ * and areas of every kind of length. Everything is done twice, with the areas against the end of
+ * their pages and against the start. What must stay as it is is compared byte for byte. */
+#include "lend.h"
+
+#include <stdio.h>
+#include <string.h>
+
+#define MOST ((size_t)-1)
+#define HUGE_LENGTH ((size_t)1 << 40)
+#define FREE_BITS 407 /* the place of the free buffers' bits in an image */
+#define COUNTS 411    /* the place of the semaphores' counts */
+#define STACK_LIMIT 4096
+#define TABLE_ROWS (CSENGADRUL_PROCESSES + 2)
+
+static uint8_t state[CSENGADRUL_STATE_SIZE + 1];
+static uint8_t store[CSENGADRUL_STORE_SIZE + 1];
+static uint8_t message[CSENGADRUL_MESSAGE_SIZE + 1];
+static uint8_t room[CSENGADRUL_MESSAGE_SIZE + 8];
+static csengadrul_row rows[TABLE_ROWS];
+
+static uint8_t state_before[sizeof state];
+static uint8_t store_before[sizeof store];
+static uint8_t message_before[sizeof message];
+static uint8_t room_before[sizeof room];
+
+static area areas[KINDS];
+static enum lies side;
+static unsigned passed, failed;
+static unsigned long codes_seen;
+
+static void count(int good, const char *what) {
+    if (good) {
+        passed++;
+        return;
+    }
+    failed++;
+    printf("not so: %s (areas against the %s)\n", what, side == AT_THE_END ? "end" : "start");
+}
+
+static void lay(enum kind kind, enum lies lies, size_t told, size_t bytes) {
+    areas[kind].lies = lies;
+    areas[kind].told = told;
+    areas[kind].bytes = bytes;
+}
+
+/* All areas as firmware lends them. */
+static void usual(void) {
+    lay(STATE, side, CSENGADRUL_STATE_SIZE, CSENGADRUL_STATE_SIZE);
+    lay(STORE, side, CSENGADRUL_STORE_SIZE, CSENGADRUL_STORE_SIZE);
+    lay(MESSAGE, side, 3, 3);
+    lay(ROOM, side, CSENGADRUL_MESSAGE_SIZE, CSENGADRUL_MESSAGE_SIZE);
+    lay(ROWS, side, CSENGADRUL_PROCESSES, CSENGADRUL_PROCESSES * sizeof(csengadrul_row));
+    areas[STATE].content = state;
+    areas[STORE].content = store;
+    areas[MESSAGE].content = message;
+    areas[ROOM].content = room;
+    areas[ROWS].content = (uint8_t *)rows;
+}
+
+static size_t lowest_free_buffer(const uint8_t *image) {
+    size_t b = 0;
+    while (b < CSENGADRUL_BUFFERS && !(image[FREE_BITS + b / 8] >> (b % 8) & 1)) b++;
+    return b;
+}
+
+/* A send writes the message's bytes at the start of the lowest free buffer, and no other byte. */
+static int sent_well(void) {
+    size_t at = CSENGADRUL_MESSAGE_SIZE * lowest_free_buffer(state_before), length = areas[MESSAGE].told;
+    if (at + length > CSENGADRUL_STORE_SIZE) return 0;
+    memcpy(store_before + at, message, length);
+    return memcmp(store, store_before, sizeof store) == 0;
+}
+
+/* A read writes the first bytes of the room, as many as the message has, and no other. */
+static int read_well(size_t length) {
+    if (length > areas[ROOM].bytes) return 0;
+    return memcmp(room + length, room_before + length, areas[ROOM].bytes - length) == 0;
+}
+
+/* What the call may have changed, by its code. */
+static int kept(enum call call, const outcome *o) {
+    uint32_t code = o->answer.code;
+    if (code != CSENGADRUL_DONE && code != CSENGADRUL_WAITS) return o->changed == 0;
+    if (memcmp(message, message_before, sizeof message) != 0) return 0;
+    switch (call) {
+    case SEND: return sent_well();
+    case READ: return (o->changed & ~(1u << ROOM)) == 0 && read_well(o->answer.number);
+    case LISTING: return (o->changed & ~(1u << ROWS)) == 0;
+    default: return (o->changed & ~(1u << STATE)) == 0;
+    }
+}
+
+/* Makes a call and counts whether it answers this, and touches nothing that it must not. */
+static void expect(const char *what, enum call call, uint32_t given, uint32_t code, uint32_t number, uint32_t running) {
+    outcome o;
+    memcpy(state_before, state, sizeof state);
+    if (call == SEND) memcpy(store_before, store, sizeof store);
+    memcpy(message_before, message, sizeof message);
+    memcpy(room_before, room, sizeof room);
+    o = lend(call, given, areas);
+    if (o.answer.code < 64) codes_seen |= 1ul << o.answer.code;
+    if (o.answer.code != code || o.answer.number != number || o.answer.running != running)
+        printf("%s: answer %lu %lu %lu, expected %lu %lu %lu\n", what, (unsigned long)o.answer.code,
+               (unsigned long)o.answer.number, (unsigned long)o.answer.running, (unsigned long)code,
+               (unsigned long)number, (unsigned long)running);
+    if (o.escaped) printf("%s: a guard byte changed, areas %#x\n", what, o.escaped);
+    count(o.answer.code == code && o.answer.number == number && o.answer.running == running && !o.escaped &&
+              kept(call, &o),
+          what);
+}
+
+static void fresh(void) {
+    usual();
+    expect("a fresh kernel", FRESH, 0, CSENGADRUL_DONE, 0, 0);
+}
+
+static void create(uint32_t class, uint32_t number, uint32_t running) {
+    expect("create", CREATE, class, CSENGADRUL_DONE, number, running);
+}
+
+static void tick(uint32_t running) {
+    expect("tick", TICK, 0, CSENGADRUL_DONE, 0, running);
+}
+
+/* A message of this length, each byte another than its neighbours. */
+static void write_message(size_t length, unsigned seed) {
+    size_t i;
+    for (i = 0; i < sizeof message; i++) message[i] = (uint8_t)(seed + 7 * i + i / 256);
+    lay(MESSAGE, side, length, length);
+}
+
+static void send(uint32_t mailbox, size_t length, uint32_t code, uint32_t running) {
+    write_message(length, mailbox + (unsigned)length);
+    expect("send", SEND, mailbox, code, 0, running);
+}
+
+static void sample_of_the_paper(void) {
+    fresh();
+    create(2, 1, 1);
+    create(2, 2, 1);
+    tick(1);
+    memcpy(message, "ABC", 3);
+    lay(MESSAGE, side, 3, 3);
+    expect("send 3 414243", SEND, 3, CSENGADRUL_DONE, 0, 1);
+    expect("receive 3", RECEIVE, 3, CSENGADRUL_DONE, 3, 1);
+    lay(ROOM, side, 2, 2);
+    expect("read 2", READ, 0, CSENGADRUL_SHORT_ROOM, 3, 1);
+    lay(ROOM, side, 512, 512);
+    memset(room, 0xee, sizeof room);
+    expect("read 512", READ, 0, CSENGADRUL_DONE, 3, 1);
+    count(memcmp(room, "ABC\xee\xee", 5) == 0, "the room begins with 414243 and is as it was behind that");
+    expect("end", END, 0, CSENGADRUL_DONE, 0, 2);
+}
+
+/* P1 to P10 of document 01. */
+static void table_of_the_paper(void) {
+    fresh();
+    tick(0);
+    fresh();
+    create(2, 1, 1);
+    create(2, 2, 1);
+    tick(1);
+    tick(1);
+    tick(2);
+    fresh();
+    create(2, 1, 1);
+    create(2, 2, 1);
+    tick(1);
+    create(4, 3, 3);
+    expect("end", END, 0, CSENGADRUL_DONE, 0, 1);
+    tick(1);
+    tick(2);
+    fresh();
+    create(4, 1, 1);
+    fresh();
+    expect("create 5", CREATE, 5, CSENGADRUL_NO_CLASS, 0, 0);
+    create(1, 1, 1);
+    expect("receive waits", RECEIVE, 0, CSENGADRUL_WAITS, 0, 0);
+    send(0, 3, CSENGADRUL_DONE, 1);
+    fresh();
+    create(3, 1, 1);
+    create(3, 2, 1);
+    expect("yield", YIELD, 0, CSENGADRUL_DONE, 0, 2);
+    expect("yield", YIELD, 0, CSENGADRUL_DONE, 0, 1);
+    fresh();
+    create(1, 1, 1);
+    expect("stop", STOP, 1, CSENGADRUL_DONE, 0, 0);
+    create(1, 1, 1);
+    fresh();
+    create(0, 1, 1);
+    expect("class 0", CLASS, 0, CSENGADRUL_DONE, 0, 1);
+    expect("class 4", CLASS, 4, CSENGADRUL_DONE, 0, 1);
+    fresh();
+    expect("stop 0", STOP, 0, CSENGADRUL_NO_PROCESS, 0, 0);
+    expect("stop 32", STOP, 32, CSENGADRUL_NO_PROCESS, 0, 0);
+    expect("yield while 0 runs", YIELD, 0, CSENGADRUL_NO_CALLER, 0, 0);
+    create(1, 1, 1);
+    expect("wait waits", WAIT, 15, CSENGADRUL_WAITS, 0, 0);
+    expect("signal wakes", SIGNAL, 15, CSENGADRUL_DONE, 0, 1);
+    count(state[COUNTS + 30] == 0 && state[COUNTS + 31] == 0, "the count is still 0");
+}
+
+static void full_tables(void) {
+    uint32_t i, m;
+    fresh();
+    for (i = 1; i < CSENGADRUL_PROCESSES; i++) create(i % CSENGADRUL_CLASSES, i, i < 4 ? i : 4);
+    expect("create with no number unused", CREATE, 0, CSENGADRUL_ALL_PROCESSES, 0, 4);
+    expect("create 5 with no number unused", CREATE, 5, CSENGADRUL_NO_CLASS, 0, 4);
+    fresh();
+    for (i = 0; i < CSENGADRUL_MAILBOX_SIZE; i++) send(0, i, CSENGADRUL_DONE, 0);
+    send(0, 5, CSENGADRUL_MAILBOX_FULL, 0);
+    for (m = 1; m < 4; m++)
+        for (i = 0; i < CSENGADRUL_MAILBOX_SIZE; i++) send(m, 512 - i, CSENGADRUL_DONE, 0);
+    send(4, 5, CSENGADRUL_NO_BUFFER, 0);
+    send(0, 5, CSENGADRUL_MAILBOX_FULL, 0);
+    create(0, 1, 1);
+    expect("wait at 4 for a message", RECEIVE, 4, CSENGADRUL_WAITS, 0, 0);
+    send(4, 5, CSENGADRUL_NO_BUFFER, 0);
+    fresh();
+    for (i = 0; i < CSENGADRUL_COUNT_LIMIT; i++) expect("signal", SIGNAL, 7, CSENGADRUL_DONE, 0, 0);
+    expect("signal at 65,535", SIGNAL, 7, CSENGADRUL_COUNT_FULL, 0, 0);
+    expect("signal elsewhere", SIGNAL, 6, CSENGADRUL_DONE, 0, 0);
+    create(0, 1, 1);
+    expect("wait counts down", WAIT, 7, CSENGADRUL_DONE, 0, 1);
+    count(state[COUNTS + 14] == 0xfe && state[COUNTS + 15] == 0xff, "the count is 65,534");
+}
+
+static void refusals_in_order(void) {
+    fresh();
+    expect("5", READ, 0, CSENGADRUL_NO_CALLER, 0, 0);
+    lay(STORE, side, 16383, 16383);
+    expect("15 before 5", READ, 0, CSENGADRUL_OTHER_STORE, 0, 0);
+    expect("15 before 3", SEND, 16, CSENGADRUL_OTHER_STORE, 0, 0);
+    lay(STATE, side, 442, 442);
+    expect("14 before 15", SEND, 16, CSENGADRUL_NOT_SOUND, 0, 0);
+    expect("14 before 15", READ, 0, CSENGADRUL_NOT_SOUND, 0, 0);
+    usual();
+    expect("5 before 2", CLASS, 5, CSENGADRUL_NO_CALLER, 0, 0);
+    expect("5 before 3", RECEIVE, 16, CSENGADRUL_NO_CALLER, 0, 0);
+    expect("5 before 4", WAIT, 16, CSENGADRUL_NO_CALLER, 0, 0);
+    expect("5", END, 0, CSENGADRUL_NO_CALLER, 0, 0);
+    expect("5", RELEASE, 0, CSENGADRUL_NO_CALLER, 0, 0);
+    create(1, 1, 1);
+    expect("2", CLASS, 5, CSENGADRUL_NO_CLASS, 0, 1);
+    expect("4", WAIT, 16, CSENGADRUL_NO_SEMAPHORE, 0, 1);
+    expect("4", SIGNAL, 16, CSENGADRUL_NO_SEMAPHORE, 0, 1);
+    expect("8", RELEASE, 0, CSENGADRUL_HAND_EMPTY, 0, 1);
+    lay(ROOM, side, 0, 0);
+    expect("8 before 9", READ, 0, CSENGADRUL_HAND_EMPTY, 0, 1);
+    usual();
+    send(16, 513, CSENGADRUL_NO_MAILBOX, 1);
+    send(15, 513, CSENGADRUL_LONG_MESSAGE, 1);
+    send(15, 512, CSENGADRUL_DONE, 1);
+    expect("receive", RECEIVE, 15, CSENGADRUL_DONE, 512, 1);
+    expect("3 before 7", RECEIVE, 16, CSENGADRUL_NO_MAILBOX, 0, 1);
+    expect("7 at an empty mailbox", RECEIVE, 15, CSENGADRUL_HAND_FULL, 0, 1);
+    expect("release", RELEASE, 0, CSENGADRUL_DONE, 0, 1);
+    expect("release again", RELEASE, 0, CSENGADRUL_HAND_EMPTY, 0, 1);
+}
+
+/* Numbers that another width would take for good ones. */
+static void large_numbers(void) {
+    static const uint32_t large[] = {256, 257, 65536, 65537, 0x80000000u, 0xffffffffu};
+    size_t i;
+    fresh();
+    create(1, 1, 1);
+    for (i = 0; i < sizeof large / sizeof *large; i++) {
+        expect("create", CREATE, large[i], CSENGADRUL_NO_CLASS, 0, 1);
+        expect("class", CLASS, large[i], CSENGADRUL_NO_CLASS, 0, 1);
+        expect("stop", STOP, large[i], CSENGADRUL_NO_PROCESS, 0, 1);
+        expect("receive", RECEIVE, large[i], CSENGADRUL_NO_MAILBOX, 0, 1);
+        expect("send", SEND, large[i], CSENGADRUL_NO_MAILBOX, 0, 1);
+        expect("signal", SIGNAL, large[i], CSENGADRUL_NO_SEMAPHORE, 0, 1);
+        expect("wait", WAIT, large[i], CSENGADRUL_NO_SEMAPHORE, 0, 1);
+    }
+    expect("stop of an unused one", STOP, 2, CSENGADRUL_NO_PROCESS, 0, 1);
+}
+
+/* Process 1 of class 1 runs with a message of 3 bytes in hand, and one of 5 is queued in mailbox 2:
+ * every call but create, receive and wait is done there at once. */
+static void hand_full(void) {
+    fresh();
+    create(1, 1, 1);
+    send(2, 3, CSENGADRUL_DONE, 1);
+    expect("receive", RECEIVE, 2, CSENGADRUL_DONE, 3, 1);
+    send(2, 5, CSENGADRUL_DONE, 1);
+}
+
+static void state_of(enum lies lies, size_t told, size_t bytes) {
+    int call;
+    for (call = FRESH; call <= (int)LISTING; call++) {
+        hand_full();
+        lay(STATE, lies, told, bytes);
+        expect("a state of another length", call, 1, CSENGADRUL_NOT_SOUND, 0, 0);
+    }
+}
+
+static void state_lengths(void) {
+    state_of(NULL_POINTER, 0, 0);
+    state_of(OUT_OF_REACH, 0, 0);
+    state_of(side, 1, 1);
+    state_of(side, CSENGADRUL_STATE_SIZE - 1, CSENGADRUL_STATE_SIZE - 1);
+    state_of(side, CSENGADRUL_STATE_SIZE + 1, CSENGADRUL_STATE_SIZE + 1);
+    state_of(OUT_OF_REACH, HUGE_LENGTH, 0);
+    state_of(OUT_OF_REACH, HUGE_LENGTH + CSENGADRUL_STATE_SIZE, 0);
+    state_of(OUT_OF_REACH, MOST, 0);
+    usual();
+}
+
+static void store_of(enum lies lies, size_t told, size_t bytes) {
+    hand_full();
+    lay(STORE, lies, told, bytes);
+    expect("send with another store", SEND, 1, CSENGADRUL_OTHER_STORE, 0, 1);
+    expect("read with another store", READ, 0, CSENGADRUL_OTHER_STORE, 0, 1);
+}
+
+static void store_lengths(void) {
+    store_of(NULL_POINTER, 0, 0);
+    store_of(OUT_OF_REACH, 0, 0);
+    store_of(side, 1, 1);
+    store_of(side, CSENGADRUL_STORE_SIZE - 1, CSENGADRUL_STORE_SIZE - 1);
+    store_of(side, CSENGADRUL_STORE_SIZE + 1, CSENGADRUL_STORE_SIZE + 1);
+    store_of(OUT_OF_REACH, HUGE_LENGTH, 0);
+    store_of(OUT_OF_REACH, HUGE_LENGTH + CSENGADRUL_STORE_SIZE, 0);
+    store_of(OUT_OF_REACH, MOST, 0);
+    usual();
+}
+
+static void message_of(enum lies lies, size_t told, size_t bytes, uint32_t code) {
+    hand_full();
+    write_message(bytes, 1);
+    lay(MESSAGE, lies, told, bytes);
+    expect("send", SEND, 9, code, 0, 1);
+}
+
+static void message_lengths(void) {
+    message_of(NULL_POINTER, 0, 0, CSENGADRUL_DONE);
+    message_of(OUT_OF_REACH, 0, 0, CSENGADRUL_DONE);
+    message_of(side, 1, 1, CSENGADRUL_DONE);
+    message_of(side, 511, 511, CSENGADRUL_DONE);
+    message_of(side, 512, 512, CSENGADRUL_DONE);
+    message_of(side, 513, 513, CSENGADRUL_LONG_MESSAGE);
+    message_of(OUT_OF_REACH, 513, 0, CSENGADRUL_LONG_MESSAGE);
+    message_of(OUT_OF_REACH, HUGE_LENGTH, 0, CSENGADRUL_LONG_MESSAGE);
+    message_of(OUT_OF_REACH, HUGE_LENGTH + 3, 0, CSENGADRUL_LONG_MESSAGE);
+    message_of(OUT_OF_REACH, MOST, 0, CSENGADRUL_LONG_MESSAGE);
+    message_of(NULL_POINTER, MOST, 0, CSENGADRUL_LONG_MESSAGE);
+    usual();
+}
+
+static void room_of(enum lies lies, size_t told, size_t bytes, uint32_t code, uint32_t length) {
+    lay(ROOM, lies, told, bytes);
+    expect("read", READ, 0, code, length, 1);
+}
+
+/* The message in hand has this many bytes. */
+static void rooms_for(size_t length) {
+    fresh();
+    create(1, 1, 1);
+    send(2, length, CSENGADRUL_DONE, 1);
+    expect("receive", RECEIVE, 2, CSENGADRUL_DONE, (uint32_t)length, 1);
+    memset(room, 0xee, sizeof room);
+    if (length > 0) {
+        room_of(NULL_POINTER, 0, 0, CSENGADRUL_SHORT_ROOM, (uint32_t)length);
+        room_of(OUT_OF_REACH, 0, 0, CSENGADRUL_SHORT_ROOM, (uint32_t)length);
+        room_of(side, length - 1, length - 1, CSENGADRUL_SHORT_ROOM, (uint32_t)length);
+    } else {
+        room_of(NULL_POINTER, 0, 0, CSENGADRUL_DONE, 0);
+        room_of(OUT_OF_REACH, 0, 0, CSENGADRUL_DONE, 0);
+        room_of(OUT_OF_REACH, MOST, 0, CSENGADRUL_DONE, 0);
+    }
+    room_of(side, length, length, CSENGADRUL_DONE, (uint32_t)length);
+    count(memcmp(room, message, length) == 0, "the room has the message");
+    memset(room, 0xdd, sizeof room);
+    room_of(side, length + 1, length + 1, CSENGADRUL_DONE, (uint32_t)length);
+    room_of(side, HUGE_LENGTH, length, CSENGADRUL_DONE, (uint32_t)length);
+    room_of(side, MOST, length + 1, CSENGADRUL_DONE, (uint32_t)length);
+    count(memcmp(room, message, length) == 0, "the huge room has the message");
+    usual();
+}
+
+static void table_of(enum lies lies, size_t told, size_t there, uint32_t code) {
+    memset(rows, 0xee, sizeof rows);
+    lay(ROWS, lies, told, there * sizeof *rows);
+    expect("listing", LISTING, 0, code, code == CSENGADRUL_DONE ? 0 : CSENGADRUL_PROCESSES, 1);
+}
+
+static int row_is(size_t process, unsigned place, unsigned which, unsigned position, unsigned class, unsigned ticks,
+                  unsigned full, unsigned length) {
+    const csengadrul_row *r = &rows[process];
+    return r->place == place && r->which == which && r->position == position && r->class_ == class &&
+           r->ticks == ticks && r->full == full && r->length == length;
+}
+
+static void listing(void) {
+    static csengadrul_row later[2];
+    hand_full();
+    create(1, 2, 1);
+    create(1, 3, 1);
+    table_of(NULL_POINTER, 0, 0, CSENGADRUL_SHORT_ROOM);
+    table_of(OUT_OF_REACH, 0, 0, CSENGADRUL_SHORT_ROOM);
+    table_of(side, 31, 31, CSENGADRUL_SHORT_ROOM);
+    table_of(side, HUGE_LENGTH, 32, CSENGADRUL_DONE);
+    table_of(side, MOST, 32, CSENGADRUL_DONE);
+    table_of(side, 32, 32, CSENGADRUL_DONE);
+    table_of(side, 34, 34, CSENGADRUL_DONE);
+    memset(later, 0xee, sizeof later);
+    count(memcmp(rows + 32, later, sizeof later) == 0, "later rows stay");
+    count(row_is(0, CSENGADRUL_STANDING_BY, 0, 0, 0, 0, 0, 0), "the row of process 0");
+    count(row_is(1, CSENGADRUL_RUNNING, 1, 0, 1, 3, 1, 3), "the row of the running one");
+    count(row_is(2, CSENGADRUL_READY, 1, 0, 1, 3, 0, 0), "the row of the first that is ready");
+    count(row_is(3, CSENGADRUL_READY, 1, 1, 1, 3, 0, 0), "the row of the second that is ready");
+    count(row_is(4, CSENGADRUL_UNUSED, 0, 0, 0, 0, 0, 0), "the row of an unused one");
+    expect("wait", WAIT, 9, CSENGADRUL_WAITS, 0, 2);
+    expect("receive", RECEIVE, 8, CSENGADRUL_WAITS, 0, 3);
+    expect("end", END, 0, CSENGADRUL_DONE, 0, 0);
+    expect("listing while 0 runs", LISTING, 0, CSENGADRUL_DONE, 0, 0);
+    count(row_is(0, CSENGADRUL_RUNNING, 0, 0, 0, 0, 0, 0), "the row of process 0 while it runs");
+    count(row_is(1, CSENGADRUL_AT_SEMAPHORE, 9, 0, 1, 3, 1, 3), "the row of a waiter with a full hand");
+    count(row_is(2, CSENGADRUL_AT_MAILBOX, 8, 0, 1, 3, 0, 0), "the row of a waiter at a mailbox");
+    usual();
+}
+
+/* In a fresh image the counts may be anything, and no other byte anything but what it is. */
+static void damaged_fresh_image(void) {
+    static const uint8_t flips[] = {1, 0x80, 0xff};
+    size_t i, j;
+    fresh();
+    for (i = 0; i < CSENGADRUL_STATE_SIZE; i++)
+        for (j = 0; j < sizeof flips; j++) {
+            state[i] ^= flips[j];
+            if (i < COUNTS) expect("a damaged byte", TICK, 0, CSENGADRUL_NOT_SOUND, 0, 0);
+            else expect("another count", TICK, 0, CSENGADRUL_DONE, 0, 0);
+            state[i] ^= flips[j];
+        }
+}
+
+static void damaged_for_each_call(void) {
+    int call;
+    for (call = CREATE; call <= (int)LISTING; call++) {
+        hand_full();
+        state[0] = 2;
+        expect("a state in which an unused process runs", call, 1, CSENGADRUL_NOT_SOUND, 0, 0);
+        memset(state, 0, sizeof state);
+        expect("a state of zeros", call, 1, CSENGADRUL_NOT_SOUND, 0, 0);
+        memset(state, 0xff, sizeof state);
+        expect("a state of ones", call, 1, CSENGADRUL_NOT_SOUND, 0, 0);
+    }
+    fresh();
+    tick(0);
+}
+
+static void all(void) {
+    sample_of_the_paper();
+    table_of_the_paper();
+    refusals_in_order();
+    large_numbers();
+    state_lengths();
+    store_lengths();
+    message_lengths();
+    rooms_for(0);
+    rooms_for(1);
+    rooms_for(3);
+    rooms_for(512);
+    listing();
+    damaged_fresh_image();
+    damaged_for_each_call();
+    full_tables();
+}
+
+int main(void) {
+    if (!lend_begin()) {
+        printf("no pages to lend\n0 passed, 1 failed\n");
+        return 1;
+    }
+    side = AT_THE_END;
+    all();
+    side = AT_THE_START;
+    all();
+    count(codes_seen == 0x10000fffful, "every code from 0 to 15 and 32 was given");
+    if (lend_deepest()) printf("a call used at most %lu bytes of stack\n", (unsigned long)lend_deepest());
+    count(lend_deepest() <= STACK_LIMIT, "a call keeps to the stack that docs/BOARD.md names");
+    printf("%u passed, %u failed\n", passed, failed);
+    return failed != 0;
+}

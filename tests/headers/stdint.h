@@ -1,0 +1,8 @@
+/* The integer types of the compiler that is at work, for one that comes without headers. */
+#ifndef TESTS_STDINT_H
+#define TESTS_STDINT_H
+typedef __UINT8_TYPE__ uint8_t;
+typedef __UINT16_TYPE__ uint16_t;
+typedef __UINT32_TYPE__ uint32_t;
+typedef __UINT64_TYPE__ uint64_t;
+#endif

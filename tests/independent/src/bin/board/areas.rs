@@ -1,0 +1,140 @@
+//! Areas that may or may not hold a sound state.
+
+use independent::image::{image, IMAGE_BYTES};
+use independent::kernel::*;
+use independent::random::Random;
+
+/// How many values are tried in the place of a byte; its own is left out.
+const CHANGES_A_BYTE: usize = 12;
+
+/// Values to put in the place of a byte.
+fn other_values(byte: u8, random: &mut Random) -> Vec<u8> {
+    let mut values = vec![byte.wrapping_add(1), byte.wrapping_sub(1), 0, 255, byte ^ 1 << random.below(8), byte ^ 0x80, 3, 36];
+    while values.len() < CHANGES_A_BYTE {
+        values.push(random.below(80) as u8);
+    }
+    values.retain(|value| *value != byte);
+    values
+}
+
+/// The image with every byte changed in turn, several times each.
+pub fn every_byte_changed(sound: &[u8], random: &mut Random) -> Vec<Vec<u8>> {
+    let mut areas = vec![];
+    for at in 0..sound.len() {
+        for value in other_values(sound[at], random) {
+            let mut area = sound.to_vec();
+            area[at] = value;
+            areas.push(area);
+        }
+    }
+    areas
+}
+
+pub fn random_bytes(random: &mut Random) -> Vec<u8> {
+    random.bytes(IMAGE_BYTES)
+}
+
+/// A sound image with several bytes changed, exchanged, or taken from another sound image.
+pub fn damaged(images: &[Vec<u8>], random: &mut Random) -> Vec<u8> {
+    let mut area = images[random.below(images.len())].clone();
+    for _ in 0..random.between(1, 4) {
+        let (at, other) = (random.below(area.len()), random.below(area.len()));
+        match random.below(5) {
+            0 => area[at] = random.next() as u8,
+            1 => area[at] = random.below(70) as u8,
+            2 => area[at] ^= 1 << random.below(8),
+            3 => area.swap(at, other),
+            _ => {
+                let from = &images[random.below(images.len())];
+                let end = (at + random.between(1, 70)).min(area.len());
+                area[at..end].copy_from_slice(&from[at..end]);
+            }
+        }
+    }
+    area
+}
+
+/// A state with a few things out of place, all of its fields in step with each other, as an image. A decision that looks
+/// at bytes one by one would take it.
+pub fn out_of_place(sound: &Kernel, random: &mut Random) -> Vec<u8> {
+    let mut kernel = sound.clone();
+    for _ in 0..random.between(1, 2) {
+        displace(&mut kernel, random);
+    }
+    let mut area = image(&kernel).to_vec();
+    if random.one_in(4) {
+        splice(&mut area, PROCESS_LINKS, random);
+    }
+    if random.one_in(4) {
+        splice(&mut area, MESSAGE_LINKS, random);
+    }
+    area
+}
+
+/// Where the two tables of a kind of rings begin, and how many nodes they have.
+type Links = (usize, usize, usize);
+const PROCESS_LINKS: Links = (65, 134, 69);
+const MESSAGE_LINKS: Links = (211, 259, 48);
+
+/// Exchanges what follows two nodes: one ring becomes two, perhaps one without a head, or two become one with two heads.
+fn splice(area: &mut [u8], (next, before, nodes): Links, random: &mut Random) {
+    let (one, other) = (random.below(nodes), random.below(nodes));
+    area.swap(next + one, next + other);
+    for node in [one, other] {
+        area[before + usize::from(area[next + node])] = node as u8;
+    }
+}
+
+/// Moves one thing to where it may not be, or may.
+fn displace(kernel: &mut Kernel, random: &mut Random) {
+    let number = random.between(1, PROCESSES - 1);
+    let (mailbox, other) = (random.below(MAILBOXES), random.below(MAILBOXES));
+    let class = random.below(CLASSES);
+    let queued = kernel.mailboxes[other].messages.pop_back();
+    match random.below(16) {
+        0 => kernel.ready[class].push_back(kernel.running),
+        1 => kernel.mailboxes[mailbox].waiters.push_back(kernel.running),
+        2 => kernel.semaphores[mailbox].waiters.push_front(kernel.running),
+        3 => kernel.running = number,
+        4 => {
+            let ran = std::mem::take(&mut kernel.running);
+            kernel.ready[class].push_back(ran);
+        }
+        5 => kernel.processes[number] = None,
+        6 => kernel.processes[number] = Some(Process { class, ticks: SLICE, hand: queued.clone() }),
+        7 => crowd(kernel, mailbox),
+        8 => kernel.semaphores[mailbox].count = 1,
+        9 => {
+            let next = kernel.ready[class].pop_front();
+            kernel.mailboxes[mailbox].waiters.extend(next);
+        }
+        10 => {
+            let next = kernel.ready[class].pop_front();
+            kernel.semaphores[mailbox].waiters.extend(next);
+        }
+        11 => {
+            let next = kernel.ready[class].pop_front();
+            kernel.ready[random.below(CLASSES)].extend(next);
+        }
+        12 => kernel.mailboxes[mailbox].messages.extend(queued.clone()),
+        _ => {
+            let Some(process) = &mut kernel.processes[number] else { return };
+            match random.below(4) {
+                0 => process.ticks = random.below(5) as u32,
+                1 => process.class = random.below(CLASSES + 1),
+                2 => process.hand = queued.clone(),
+                _ => process.hand = Some(Message { buffer: random.below(BUFFERS), bytes: vec![0; random.between(0, 513)] }),
+            }
+        }
+    }
+    // Now and then the message is free now, or in two places.
+    if random.one_in(2) {
+        kernel.mailboxes[other].messages.extend(queued);
+    }
+}
+
+/// All messages of all mailboxes, up to one too many, into one.
+fn crowd(kernel: &mut Kernel, mailbox: usize) {
+    let all: Vec<Message> = kernel.mailboxes.iter_mut().flat_map(|from| from.messages.drain(..)).collect();
+    kernel.mailboxes[mailbox].messages.extend(all.into_iter().take(MAILBOX_MESSAGES + 1));
+}

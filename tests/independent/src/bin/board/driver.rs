@@ -1,0 +1,267 @@
+//! The driver in C and what it must write: calls go out in batches, and each reply is compared.
+
+use independent::answer::{Answer, DONE, NOT_SOUND};
+use independent::call::Call;
+use independent::grammar::line_of;
+use independent::image::{image, IMAGE_BYTES};
+use independent::kernel::{Kernel, BUFFER_BYTES, PROCESSES};
+use independent::listing::Row;
+use std::io::{self, BufReader, BufWriter, Read, Write};
+use std::process::{Child, ChildStdin, ChildStdout, Command, Stdio};
+
+// As in tests/board/driver.c.
+const PUT: u8 = 100;
+const FLUSH: u8 = 101;
+const REPLY: u8 = 0xc5;
+const LISTING: u8 = 13;
+const ROOM_BYTE: u8 = 0x5c;
+const ROW_BYTE: u8 = 0xee;
+
+const ROW_BYTES: usize = 8;
+/// So many differences are printed.
+const PRINTED: usize = 20;
+
+/// What the driver must write for one call.
+struct Expected {
+    call: String,
+    answer: Answer,
+    state: Vec<u8>,
+    /// Where the first byte of the store changes, and the bytes from there to the last that changes.
+    store_change: (usize, Vec<u8>),
+    /// The room after a read, the table after a listing.
+    lent: Vec<u8>,
+}
+
+/// Calls that are made in one go: the bytes for the driver and what must come back.
+#[derive(Default)]
+pub struct Batch {
+    name: String,
+    request: Vec<u8>,
+    expected: Vec<Expected>,
+}
+
+impl Batch {
+    pub fn new(name: String) -> Batch {
+        Batch { name, ..Batch::default() }
+    }
+
+    pub fn calls(&self) -> usize {
+        self.expected.len()
+    }
+
+    pub fn put(&mut self, area: &[u8]) {
+        self.request.push(PUT);
+        self.request.extend(area);
+    }
+
+    fn request(&mut self, which: u8, number: u32, length: usize, message: &[u8]) {
+        self.request.push(which);
+        self.request.extend(number.to_le_bytes());
+        self.request.extend((length as u16).to_le_bytes());
+        self.request.extend(message);
+    }
+
+    pub fn fresh(&mut self) {
+        self.request(0, 0, 0, &[]);
+        let answer = Answer { code: DONE, number: 0, running: 0 };
+        self.expect("fresh".to_string(), answer, image(&Kernel::fresh()).to_vec(), (0, vec![]), vec![]);
+    }
+
+    fn expect(&mut self, call: String, answer: Answer, state: Vec<u8>, store_change: (usize, Vec<u8>), lent: Vec<u8>) {
+        self.expected.push(Expected { call, answer, state, store_change, lent });
+    }
+
+    fn request_call(&mut self, call: &Call) {
+        match call {
+            Call::Create(class) => self.request(1, *class, 0, &[]),
+            Call::Stop(process) => self.request(2, *process, 0, &[]),
+            Call::End => self.request(3, 0, 0, &[]),
+            Call::Yield => self.request(4, 0, 0, &[]),
+            Call::Class(class) => self.request(5, *class, 0, &[]),
+            Call::Tick => self.request(6, 0, 0, &[]),
+            Call::Send(mailbox, bytes) => self.request(7, *mailbox, bytes.len(), bytes),
+            Call::Receive(mailbox) => self.request(8, *mailbox, 0, &[]),
+            Call::Read(room) => self.request(9, 0, *room as usize, &[]),
+            Call::Release => self.request(10, 0, 0, &[]),
+            Call::Signal(semaphore) => self.request(11, *semaphore, 0, &[]),
+            Call::Wait(semaphore) => self.request(12, *semaphore, 0, &[]),
+        }
+    }
+
+    /// A call on the kernel's image: the kernel and the store are changed as they must be.
+    pub fn call(&mut self, kernel: &mut Kernel, store: &mut [u8], call: &Call) {
+        self.request_call(call);
+        let buffer = kernel.lowest_free_buffer();
+        let (answer, message) = kernel.apply(call);
+        let change = match (call, buffer) {
+            (Call::Send(_, bytes), Some(buffer)) if answer.code == DONE => write_to(store, buffer * BUFFER_BYTES, bytes),
+            _ => (0, vec![]),
+        };
+        let lent = if let Call::Read(room) = call { room_after(*room, message.as_deref()) } else { vec![] };
+        self.expect(line_of(call), answer, image(kernel).to_vec(), change, lent);
+    }
+
+    /// A call on an area that holds no sound state: nothing changes.
+    pub fn refused(&mut self, area: &[u8], call: &Call) {
+        self.request_call(call);
+        let answer = Answer { code: NOT_SOUND, number: 0, running: 0 };
+        let lent = if let Call::Read(room) = call { room_after(*room, None) } else { vec![] };
+        self.expect(line_of(call), answer, area.to_vec(), (0, vec![]), lent);
+    }
+
+    pub fn listing(&mut self, kernel: &Kernel, rows: usize) {
+        self.request(LISTING, 0, rows, &[]);
+        let answer = kernel.listing(&mut vec![Row::default(); rows]);
+        let listed = if answer.code == DONE { PROCESSES } else { 0 };
+        let mut table: Vec<u8> = (0..listed).flat_map(|process| row_bytes(&kernel.row(process))).collect();
+        table.resize(ROW_BYTES * rows, ROW_BYTE);
+        self.expect(format!("listing {rows}"), answer, image(kernel).to_vec(), (0, vec![]), table);
+    }
+}
+
+/// A row as the header has it: six bytes and a number of two.
+fn row_bytes(row: &Row) -> [u8; ROW_BYTES] {
+    let [place, which, position, class, ticks, full, length] = row.numbers();
+    let [low, high, ..] = length.to_le_bytes();
+    [place as u8, which as u8, position as u8, class as u8, ticks as u8, full as u8, low, high]
+}
+
+/// Writes to the store; gives the bytes from the first to the last that are others now.
+fn write_to(store: &mut [u8], at: usize, bytes: &[u8]) -> (usize, Vec<u8>) {
+    let differs = |(i, byte): (usize, &u8)| store[at + i] != *byte;
+    let first = bytes.iter().enumerate().position(differs);
+    let last = bytes.iter().enumerate().rposition(differs);
+    store[at..at + bytes.len()].copy_from_slice(bytes);
+    match (first, last) {
+        (Some(first), Some(last)) => (at + first, bytes[first..=last].to_vec()),
+        _ => (0, vec![]),
+    }
+}
+
+fn room_after(room: u32, message: Option<&[u8]>) -> Vec<u8> {
+    let mut bytes = message.unwrap_or(&[]).to_vec();
+    bytes.resize(room as usize, ROOM_BYTE);
+    bytes
+}
+
+/// The driver, and what was counted of it.
+pub struct Board {
+    driver: Child,
+    requests: BufWriter<ChildStdin>,
+    replies: BufReader<ChildStdout>,
+    passed: usize,
+    failed: usize,
+    codes: [usize; 64],
+}
+
+impl Board {
+    pub fn start(command: &[String]) -> io::Result<Board> {
+        let mut driver = Command::new(&command[0]).args(&command[1..]).stdin(Stdio::piped()).stdout(Stdio::piped()).spawn()?;
+        let requests = BufWriter::new(driver.stdin.take().expect("a pipe"));
+        let replies = BufReader::new(driver.stdout.take().expect("a pipe"));
+        Ok(Board { driver, requests, replies, passed: 0, failed: 0, codes: [0; 64] })
+    }
+
+    /// Makes the calls of a batch and compares each. A driver that stops is an error.
+    pub fn run(&mut self, batch: &Batch) -> io::Result<()> {
+        let (requests, replies) = (&mut self.requests, &mut self.replies);
+        let (passed, failed, codes, driver) = (&mut self.passed, &mut self.failed, &mut self.codes, &mut self.driver);
+        std::thread::scope(|scope| {
+            let writer = scope.spawn(move || {
+                requests.write_all(&batch.request)?;
+                requests.write_all(&[FLUSH])?;
+                requests.flush()
+            });
+            for (number, expected) in batch.expected.iter().enumerate() {
+                let reply = match Reply::take(replies, expected.lent.len()) {
+                    Ok(reply) => reply,
+                    Err(error) => {
+                        println!("{}, call {number}, {}: {error}", batch.name, expected.call);
+                        // The writer would wait for ever for a driver that nobody reads from.
+                        driver.kill()?;
+                        return Err(error);
+                    }
+                };
+                codes[(reply.answer.code as usize).min(63)] += 1;
+                let differences = reply.differences(expected);
+                if differences.is_empty() {
+                    *passed += 1;
+                    continue;
+                }
+                *failed += 1;
+                if *failed <= PRINTED {
+                    println!("{}, call {number}, {}: {}", batch.name, expected.call, differences.join("; "));
+                }
+            }
+            writer.join().expect("the writer ends")
+        })
+    }
+
+    pub fn finish(mut self) -> io::Result<()> {
+        drop(self.requests);
+        let mut rest = Vec::new();
+        self.replies.read_to_end(&mut rest)?;
+        let status = self.driver.wait()?;
+        if !rest.is_empty() || !status.success() {
+            println!("the driver wrote {} bytes too many and ended with {status}", rest.len());
+            self.failed += 1;
+        }
+        let codes: Vec<String> = (0..64).filter(|&code| self.codes[code] > 0).map(|code| format!("{code}: {}", self.codes[code])).collect();
+        println!("answers by code: {}", codes.join(", "));
+        println!("{} passed, {} failed", self.passed, self.failed);
+        std::process::exit(if self.failed == 0 { 0 } else { 1 })
+    }
+}
+
+/// What the driver wrote for one call.
+struct Reply {
+    answer: Answer,
+    wrong: u8,
+    state: Vec<u8>,
+    store_change: (usize, Vec<u8>),
+    lent: Vec<u8>,
+}
+
+impl Reply {
+    fn take(from: &mut impl Read, lent: usize) -> io::Result<Reply> {
+        let mut bytes = |length: usize| {
+            let mut bytes = vec![0; length];
+            from.read_exact(&mut bytes).map(|()| bytes)
+        };
+        let word = |bytes: &[u8], at: usize| u32::from_le_bytes(bytes[at..at + 4].try_into().expect("four bytes"));
+        let half = |bytes: &[u8], at: usize| u16::from_le_bytes(bytes[at..at + 2].try_into().expect("two bytes")) as usize;
+        let head = bytes(14)?;
+        if head[13] != REPLY {
+            return Err(io::Error::other("what the driver wrote is no reply"));
+        }
+        let state = bytes(IMAGE_BYTES)?;
+        let change = bytes(4)?;
+        Ok(Reply {
+            answer: Answer { code: word(&head, 0), number: word(&head, 4), running: word(&head, 8) },
+            wrong: head[12],
+            state,
+            store_change: (half(&change, 0), bytes(half(&change, 2))?),
+            lent: bytes(lent)?,
+        })
+    }
+
+    fn differences(&self, expected: &Expected) -> Vec<String> {
+        let mut found = vec![];
+        if self.answer != expected.answer {
+            found.push(format!("answered {:?}, not {:?}", self.answer, expected.answer));
+        }
+        if self.wrong != 0 {
+            found.push(format!("bytes outside an area changed, or the message did: {:#x}", self.wrong));
+        }
+        if let Some(at) = self.state.iter().zip(&expected.state).position(|(one, other)| one != other) {
+            found.push(format!("byte {at} of the state is {}, not {}", self.state[at], expected.state[at]));
+        }
+        if self.store_change != expected.store_change {
+            found.push("the store changed in another way".to_string());
+        }
+        if self.lent != expected.lent {
+            found.push("the room or the table is another".to_string());
+        }
+        found
+    }
+}

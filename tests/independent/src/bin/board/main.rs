@@ -1,0 +1,155 @@
+//! Compares the calls that the board exports, made by tests/board/driver.c, with the independent kernel.
+//!
+//! Usage: board COMMAND..., where the command runs the driver. The last line is 'N passed, M failed'.
+
+mod areas;
+mod driver;
+
+use areas::{damaged, every_byte_changed, out_of_place, random_bytes};
+use driver::{Batch, Board};
+use independent::call::Call;
+use independent::grammar::parse;
+use independent::image::{decide, image, take_bytes};
+use independent::kernel::{Kernel, BUFFER_BYTES, PROCESSES, STORE_BYTES};
+use independent::random::Random;
+use independent::scripts::Script;
+use std::io;
+use std::time::{SystemTime, UNIX_EPOCH};
+
+const FIXED_SEEDS: u64 = 64;
+const SEEDS_A_DAY: u64 = 8;
+const CALLS_A_SEED: u64 = 2_000;
+/// Every so many sequences, the image that it leads to has every byte changed in turn: eight, of all styles.
+const EVERY: usize = 9;
+const DAMAGED: usize = 20_000;
+const OUT_OF_PLACE: usize = 20_000;
+const RANDOM_AREAS: usize = 2_000;
+/// The most rows that a table is given, two more than there are processes.
+const ROWS: usize = PROCESSES + 2;
+
+/// The same call with a number past all that a script can name.
+fn enlarged(call: &Call, random: &mut Random) -> Call {
+    let large = random.next() as u32 | 1 << 16;
+    match call {
+        Call::Create(_) => Call::Create(large),
+        Call::Stop(_) => Call::Stop(large),
+        Call::Class(_) => Call::Class(large),
+        Call::Send(_, bytes) => Call::Send(large, bytes.clone()),
+        Call::Receive(_) => Call::Receive(large),
+        Call::Signal(_) => Call::Signal(large),
+        _ => Call::Wait(large),
+    }
+}
+
+/// The calls of a random script, from fresh; the kernel that they lead to.
+fn sequence(seed: u64, calls: u64, store: &mut [u8]) -> (Batch, Kernel) {
+    let mut batch = Batch::new(format!("seed {seed}"));
+    let mut script = Script::new(seed, calls);
+    let mut random = Random::new(!seed);
+    let mut kernel = Kernel::fresh();
+    batch.fresh();
+    while let Some(line) = script.next_line() {
+        let Some(call) = parse(&line) else { continue };
+        batch.call(&mut kernel, store, &call);
+        if random.one_in(60) {
+            batch.call(&mut kernel, store, &enlarged(&call, &mut random));
+        }
+        if random.one_in(10) {
+            let shortest = if random.one_in(4) { 0 } else { PROCESSES };
+            batch.listing(&kernel, random.between(shortest, ROWS));
+        }
+        assert!(all_whole(&kernel, store), "the expected store holds every message whole");
+    }
+    (batch, kernel)
+}
+
+fn all_whole(kernel: &Kernel, store: &[u8]) -> bool {
+    kernel.held().all(|message| store[message.buffer * BUFFER_BYTES..].starts_with(&message.bytes))
+}
+
+/// Any call, whatever the state is.
+fn any_call(random: &mut Random) -> Call {
+    let number = random.below(18) as u32;
+    match random.below(12) {
+        0 => Call::Create(number % 6),
+        1 => Call::Stop(random.below(33) as u32),
+        2 => Call::End,
+        3 => Call::Yield,
+        4 => Call::Class(number % 6),
+        5 => Call::Tick,
+        6 => {
+            let length = random.between(0, 40);
+            Call::Send(number, random.bytes(length))
+        }
+        7 => Call::Receive(number),
+        8 => Call::Read(random.between(0, 512) as u32),
+        9 => Call::Release,
+        10 => Call::Signal(number),
+        _ => Call::Wait(number),
+    }
+}
+
+/// Makes a call on an area: refused exactly where the model's own decision refuses it. True if it was not.
+fn judged(batch: &mut Batch, area: &[u8], store: &mut [u8], random: &mut Random) -> bool {
+    let call = any_call(random);
+    batch.put(area);
+    match decide(area) {
+        Some(mut kernel) => {
+            take_bytes(&mut kernel, store);
+            batch.call(&mut kernel, store, &call);
+            true
+        }
+        None => {
+            batch.refused(area, &call);
+            false
+        }
+    }
+}
+
+/// Judges areas with the board and the model, and prints how many are sound.
+fn judge_all(board: &mut Board, name: String, store: &mut [u8], areas: impl Iterator<Item = Vec<u8>>) -> io::Result<()> {
+    let mut random = Random::new(name.len() as u64);
+    let mut batch = Batch::new(name.clone());
+    let sound = areas.filter(|area| judged(&mut batch, area, store, &mut random)).count();
+    board.run(&batch)?;
+    println!("{name}: {}, of them sound: {sound}", batch.calls());
+    Ok(())
+}
+
+fn compare(board: &mut Board, today: u64) -> io::Result<()> {
+    let mut store = vec![0; STORE_BYTES];
+    let mut calls = 0;
+    let mut kernels = vec![];
+    for seed in (0..FIXED_SEEDS).chain(today..today + SEEDS_A_DAY) {
+        let (batch, kernel) = sequence(seed, CALLS_A_SEED, &mut store);
+        board.run(&batch)?;
+        calls += batch.calls();
+        kernels.push(kernel);
+    }
+    println!("calls in {} sequences: {calls}", kernels.len());
+
+    let images: Vec<Vec<u8>> = kernels.iter().map(|kernel| image(kernel).to_vec()).collect();
+    for seed in (0..FIXED_SEEDS as usize).step_by(EVERY) {
+        let areas = every_byte_changed(&images[seed], &mut Random::new(seed as u64));
+        judge_all(board, format!("one byte changed after seed {seed}"), &mut store, areas.into_iter())?;
+    }
+    let mut random = Random::new(today);
+    judge_all(board, format!("several bytes changed, seed {today}"), &mut store, (0..DAMAGED).map(|_| damaged(&images, &mut random)))?;
+    let mut random = Random::new(today);
+    let displaced = (0..OUT_OF_PLACE).map(|turn| out_of_place(&kernels[turn % kernels.len()], &mut random));
+    judge_all(board, format!("things out of place, seed {today}"), &mut store, displaced)?;
+    let mut random = Random::new(today);
+    judge_all(board, format!("random areas, seed {today}"), &mut store, (0..RANDOM_AREAS).map(|_| random_bytes(&mut random)))
+}
+
+fn main() -> io::Result<()> {
+    let words: Vec<String> = std::env::args().skip(1).collect();
+    let mut board = Board::start(&words)?;
+    let today = SystemTime::now().duration_since(UNIX_EPOCH).map_or(0, |since| since.as_secs() / 86_400);
+    println!("seeds 0 to {} and, of the day, {today} to {}", FIXED_SEEDS - 1, today + SEEDS_A_DAY - 1);
+    if compare(&mut board, today).is_err() {
+        println!("0 passed, 1 failed");
+        std::process::exit(1);
+    }
+    board.finish()
+}
