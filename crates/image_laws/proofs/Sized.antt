@@ -1,0 +1,112 @@
+-- Every struct that holds a sound state is sized: its numbers fit their bytes.
+-- Assumes nothing.
+use Prim.Native.Nat.{ℕ, _+_, _^_, _≤_, _<_}
+use mathlib.Core.Path.{_≡_, ap}
+use mathlib.Core.Bool.{Bool}
+use mathlib.Core.Logic.{_≢_, ⊎-elim}
+use mathlib.Core.List.{List, [], _∷_, map}
+use mathlib.Core.Option.{Option, none, some}
+use native.Mathlib.Omega.{arith}
+use lib.ListN.{length, getD}
+use Rattle.lists.specs.Lists.{occurs}
+use Rattle.lists.proofs.Laws.{same?, le?, one-same, one-other, total-zero}
+use Rattle.bits.specs.Word.{width, word}
+use Rattle.bits.proofs.Words.{word-below}
+use Rattle.rings.specs.Ring.{Rings}
+use Rattle.rings.specs.Units.{numbered}
+use Rattle.rings.proofs.Laws.{found}
+use Rattle.queues.specs.Queue as Queue
+use Rattle.boxes.specs.Box as Box
+use Rattle.plain.specs.Sizes.{processes, mailboxes, buffers, bufferSize, longest, semaphores, highestCount, slice}
+use Rattle.plain.specs.Sound.{AllShort, Short, Sound}
+use Rattle.plain.specs.Sound as Plain
+use Rattle.plain.specs.State.{Message, State, buffersOf, inHand, held}
+use Rattle.plain_laws.proofs.Seats.{runner-range}
+use Rattle.procs.specs.Stands as Stands
+use Rattle.mail.proofs.Held.{not-in-hand}
+use Rattle.mail.specs.Carries.{bufferIn, AsLong, LongInHand}
+use Rattle.mail.specs.Carries as Carries
+use Rattle.seats.specs.Seats.{isUnused}
+use Rattle.kernel.specs.Holds.{Holds}
+use Rattle.kernel.specs.declared.Kernel.{Kernel}
+use Rattle.image.specs.Image.{U8, U16, U32, Array, Sized}
+use Rattle.image_laws.proofs.Arrays.{fitting, units-fit}
+use Rattle.image_laws.proofs.Nodes.{inside}
+
+-- ---- tables of links
+
+-- of no more nodes than a byte has values
+module _ {A : Type 0} (num : A → ℕ) {n m : ℕ} (next prev : List A) {f : ℕ → List ℕ} (R : Rings n m (numbered num next prev) f) (few : n + m ≤ 2 ^ 8) where
+  nexts-fit : Array (n + m) (λ x. U8 (num x)) next
+  nexts-fit = units-fit num {F = U8} next (fitting U8 (n + m) (map num next) (R .nexts) (λ i h. omega (arith, inside R i h .0)))
+
+  prevs-fit : Array (n + m) (λ x. U8 (num x)) prev
+  prevs-fit = units-fit num {F = U8} prev (fitting U8 (n + m) (map num prev) (R .prevs) (λ i h. omega (arith, inside R i h .1)))
+
+-- ---- bits
+
+bits-fit : {w : ℕ} (t : ℕ → Bool) → w ≡ word width t → U32 w
+bits-fit t e = omega (arith, e, word-below width t)
+
+-- ---- buffers in hands
+
+hand-small : (h : Option Message) → ((b : ℕ) → buffers ≤ b → occurs b (inHand h) ≡ 0) → bufferIn h < buffers
+hand-small none z = omega arith
+hand-small (some x) z = ⊎-elim (λ h. absurd (omega (arith, z (x .buffer) h, one-same (x .buffer)))) (λ h. h) (le? buffers (x .buffer))
+
+-- ---- lengths of messages
+
+module _ (t : List ℕ) (b : ℕ) where
+  short-queued : (l : List Message) → AsLong t l → AllShort l → 1 ≤ occurs b (buffersOf l) → getD t b 0 ≤ longest
+  short-queued [] a s o = absurd (omega arith)
+  short-queued (x ∷ l) a s o = ⊎-elim
+      (λ (e : x .buffer ≡ b). omega (arith, ap (λ (i : ℕ). getD t i 0) e, a .0, s .0))
+      (λ (d : x .buffer ≢ b). short-queued l (a .1) (s .1) (omega (arith, one-other (x .buffer) b d)))
+      (same? (x .buffer) b)
+
+  short-in-hand : (h : Option Message) → LongInHand t h → Short h → 1 ≤ occurs b (inHand h) → getD t b 0 ≤ longest
+  short-in-hand none a s o = absurd (omega arith)
+  short-in-hand (some x) a s o = ⊎-elim
+      (λ (e : x .buffer ≡ b). omega (arith, ap (λ (i : ℕ). getD t i 0) e, a, s))
+      (λ (d : x .buffer ≢ b). absurd (omega (arith, one-other (x .buffer) b d)))
+      (same? (x .buffer) b)
+
+-- a buffer that is held has the length of its message, and a free one has 0
+short : {k : Carries.Numbers} {box : ℕ → List Message} {hand : ℕ → Option Message} → Carries.Carries k box hand → Plain.Mail box hand → (b : ℕ) → getD (k .length) b 0 ≤ longest
+unfolding held
+short {k} {box} {hand} K M b = ⊎-elim
+    (λ r. short-queued (k .length) b (box (r .0)) (K .queued-lengths (r .0)) (M .queued-short (r .0)) (r .2))
+    (λ (q : (m : ℕ) → m < mailboxes → occurs b (buffersOf (box m)) ≡ 0). ⊎-elim
+    (λ r. short-in-hand (k .length) b (hand (r .0)) (K .hand-lengths (r .0)) (M .hands-short (r .0)) (r .2))
+    (λ (h : (p : ℕ) → p < processes → occurs b (inHand (hand p)) ≡ 0).
+    let free : held box hand b ≡ 0 = omega (arith, total-zero mailboxes (λ m. occurs b (buffersOf (box m))) q, total-zero processes (λ p. occurs b (inHand (hand p))) h) in
+    omega (arith, K .free-lengths b free))
+    (found b processes (λ p. inHand (hand p))))
+    (found b mailboxes (λ m. buffersOf (box m)))
+
+-- ---- the whole
+
+pub sized : {k : Kernel} {s : State} → Holds k s → Sound s → Sized k
+unfolding Stands.numbers Carries.numbers Queue.tablesOf Box.tablesOf bufferSize longest highestCount slice
+sized {k} {s} H S =
+    let P = H .procs in
+    let K = H .mail in
+    record {
+      running = omega (arith, P .running, runner-range slice (s .procs) (S .seated));
+      class = fitting U8 processes (k .procs .class) (P .classes-long) (λ p h. omega (arith, P .class p, S .seated .in-class p));
+      ticks = fitting U8 processes (k .procs .ticks) (P .ticks-long) (λ p h. omega (arith, P .ticks p, S .seated .ticks-most p));
+      next = nexts-fit Queue.num (k .procs .queues .next) (k .procs .queues .prev) (P .queues) (omega arith);
+      prev = prevs-fit Queue.num (k .procs .queues .next) (k .procs .queues .prev) (P .queues) (omega arith);
+      ready = bits-fit (Stands.isReady (s .procs .queue)) (P .ready);
+      unused = bits-fit (isUnused (s .procs)) (H .unused);
+      box-next = nexts-fit Box.num (k .mail .boxes .next) (k .mail .boxes .prev) (K .boxes) (omega arith);
+      box-prev = prevs-fit Box.num (k .mail .boxes .next) (k .mail .boxes .prev) (K .boxes) (omega arith);
+      hand = units-fit Box.num {F = U8} (k .mail .hand) (fitting U8 processes (map Box.num (k .mail .hand)) (K .hands-long) (λ p h. omega (arith, K .hands p, in-hand p)));
+      full = bits-fit (Carries.isFull (s .hand)) (K .full);
+      lengths = fitting U16 buffers (k .mail .length) (K .lengths-long) (λ b h. omega (arith, short K (S .mail) b));
+      free = bits-fit (Carries.isFree (s .box) (s .hand)) (K .free);
+      count = fitting U16 semaphores (k .count) (H .counts-long) (λ i h. omega (arith, H .counts i, S .counts i));
+    }
+  where
+    in-hand : (p : ℕ) → bufferIn (s .hand p) < buffers
+    in-hand p = hand-small (s .hand p) (λ b h. not-in-hand (s .box) (s .hand) b (H .mail .no-more-hands) (S .mail .no-more-buffers b h) p)
