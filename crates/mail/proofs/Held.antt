@@ -7,9 +7,10 @@ use mathlib.Core.List.{List, [], _∷_, _++_, append-assoc}
 use mathlib.Core.Option.{Option, none, some}
 use native.Mathlib.Omega.{arith}
 use Rattle.lists.specs.Lists.{put, occurs}
-use Rattle.lists.proofs.Laws.{le?, put-same, put-other, occurs-append, total-zero, total-at, total-change}
+use Rattle.lists.proofs.Laws.{le?, occurs-append, total-zero, total-at}
 use Rattle.plain.specs.Sizes.{processes, mailboxes}
 use Rattle.plain.specs.State.{Message, lies, buffersOf, inHand, held}
+use Rattle.plain_laws.proofs.Mail.{held-box, held-hand}
 
 pub buffers-append : (l r : List Message) → buffersOf (l ++ r) ≡ buffersOf l ++ buffersOf r
 buffers-append [] r = refl
@@ -18,28 +19,6 @@ buffers-append (x ∷ l) r = ap (λ (a : List ℕ). lies x ++ a) (buffers-append
 pub held-nowhere : (b : ℕ) → held (λ m. []) (λ p. none) b ≡ 0
 unfolding held
 held-nowhere b = omega (arith, total-zero mailboxes (λ m. 0) (λ m h. refl), total-zero processes (λ p. 0) (λ p h. refl))
-
-held-box : (box : ℕ → List Message) (hand : ℕ → Option Message) (m : ℕ) (l : List Message) (b : ℕ) → m < mailboxes
-    → held (put box m l) hand b + occurs b (buffersOf (box m)) ≡ held box hand b + occurs b (buffersOf l)
-unfolding held
-held-box box hand m l b h =
-    omega (
-      arith,
-      total-change mailboxes (λ i. occurs b (buffersOf (box i))) (λ i. occurs b (buffersOf (put box m l i))) m h
-          (λ j d. ap (λ (a : List Message). occurs b (buffersOf a)) (put-other box m l j d)),
-      ap (λ (a : List Message). occurs b (buffersOf a)) (put-same box m l),
-    )
-
-pub held-hand : (box : ℕ → List Message) (hand : ℕ → Option Message) (p : ℕ) (x : Option Message) (b : ℕ) → p < processes
-    → held box (put hand p x) b + occurs b (inHand (hand p)) ≡ held box hand b + occurs b (inHand x)
-unfolding held
-held-hand box hand p x b h =
-    omega (
-      arith,
-      total-change processes (λ i. occurs b (inHand (hand i))) (λ i. occurs b (inHand (put hand p x i))) p h
-          (λ j d. ap (λ (a : Option Message). occurs b (inHand a)) (put-other hand p x j d)),
-      ap (λ (a : Option Message). occurs b (inHand a)) (put-same hand p x),
-    )
 
 module _ (box : ℕ → List Message) (hand : ℕ → Option Message) (b : ℕ) where
   -- a message goes last into mailbox m

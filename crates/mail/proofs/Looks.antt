@@ -44,7 +44,7 @@ lowest-free-held {k} {box} {hand} K d =
     rw e (l .1, eqb-true (held box hand b) 0 (l .2))
 
 -- as many messages as buffers, and some where there are some
-buffers-length : (l : List Message) → length (buffersOf l) ≡ length l
+pub buffers-length : (l : List Message) → length (buffersOf l) ≡ length l
 buffers-length [] = refl
 buffers-length (x ∷ l) = omega (arith, buffers-length l)
 

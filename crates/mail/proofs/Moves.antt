@@ -12,6 +12,7 @@ use lib.Seq.{getD-set-same}
 use lib.Dec.{eqb}
 use borrow.Author.Tests.{eq-eqb, ne-eqb}
 use Rattle.lists.specs.Lists.{if_then_else_, put, one, occurs, without}
+use Rattle.lists.proofs.Laws as Laws
 use Rattle.lists.proofs.Laws.{le?, put-cases, one-same, one-other, taken-out}
 use Rattle.bits.specs.Word.{width, word}
 use Rattle.bits.proofs.Words.{word-same}
@@ -27,8 +28,9 @@ use Rattle.plain.specs.Sound.{Mail}
 use Rattle.mail.specs.Carries.{Numbers, bufferIn, isFree, AsLong, LongInHand, Carries}
 use Rattle.mail.specs.Moves.{freshMail, filled, freed, given, emptied, queuedLast, handedOver, taken, letGo}
 use Rattle.mail.proofs.Looks.{has-message, in-hand}
-use Rattle.mail.proofs.Held.{buffers-append, held-nowhere, held-hand, held-queued, held-given, held-taken, not-queued, not-in-hand}
-use Rattle.mail.proofs.Parts.{getD-zeros, put-kept, buffers-put, hands-put, no-more-put, full-put, free-put, zeros-put, long-queue, long-hand, long-rear}
+use Rattle.plain_laws.proofs.Mail.{held-hand}
+use Rattle.mail.proofs.Held.{buffers-append, held-nowhere, held-queued, held-given, held-taken, not-queued, not-in-hand}
+use Rattle.mail.proofs.Parts.{put-kept, buffers-put, hands-put, no-more-put, full-put, free-put, zeros-put, long-queue, long-hand, long-rear}
 
 pub fresh-carries : Carries freshMail (λ m. []) (λ p. none)
 unfolding freshMail
@@ -37,12 +39,12 @@ fresh-carries =
       hands-long = refl;
       lengths-long = refl;
       boxes = fresh-rings buffers mailboxes;
-      hands = getD-zeros processes;
+      hands = Laws.zeros processes;
       no-more-hands = λ p h. refl;
       full = refl;
       queued-lengths = λ m. tt;
       hand-lengths = λ p. tt;
-      free-lengths = λ b z. getD-zeros buffers b;
+      free-lengths = λ b z. Laws.zeros buffers b;
       free = word-same width (λ b. true) (isFree (λ m. []) (λ p. none)) (λ b h. sym (eq-eqb (held (λ m. []) (λ p. none) b) 0 (held-nowhere b)));
     }
 

@@ -1,13 +1,13 @@
 -- The parts of what a struct carries, as one hand or one buffer changes: the hands, the bits, the lengths.
 -- Assumes nothing.
-use Prim.Native.Nat.{ℕ, zero, suc, _≤_, _<_}
+use Prim.Native.Nat.{ℕ, _≤_, _<_}
 use mathlib.Core.Path.{_≡_, refl, sym, ap, _∙_, fun-ext}
 use mathlib.Core.Bool.{Bool, true, false, not}
 use mathlib.Core.Logic.{_≢_, ⊎-elim}
 use mathlib.Core.List.{List, [], _∷_, _++_}
 use mathlib.Core.Option.{Option, none, some}
 use native.Mathlib.Omega.{arith}
-use lib.ListN.{length, getD, set, replicate}
+use lib.ListN.{length, getD, set}
 use lib.Seq.{getD-set-same, getD-set-other}
 use lib.Dec.{eqb}
 use Rattle.lists.specs.Lists.{if_then_else_, put, occurs}
@@ -31,11 +31,6 @@ put-through {A} {B} g f i v j = go (eqb j i)
 -- f has v at i already
 pub put-kept : {A : Type 0} (f : ℕ → A) (i : ℕ) (v : A) → f i ≡ v → f ≡ put f i v
 put-kept {A} f i v e = fun-ext (λ j. put-cases (λ (a : A). f j ≡ a) f i v j (λ d. ap f d ∙ e) (λ d. refl))
-
-pub getD-zeros : (n i : ℕ) → getD {A = ℕ} (replicate n 0) i 0 ≡ 0
-getD-zeros zero i = refl
-getD-zeros (suc n) zero = refl
-getD-zeros (suc n) (suc i) = getD-zeros n i
 
 pub buffers-put : (box : ℕ → List Message) (m : ℕ) (l : List Message) → put (λ i. buffersOf (box i)) m (buffersOf l) ≡ (λ i. buffersOf (put box m l i))
 buffers-put box m l = fun-ext (put-through buffersOf box m l)
