@@ -296,15 +296,16 @@ static void state_of(enum lies lies, size_t told, size_t bytes) {
     }
 }
 
-static void state_lengths(void) {
-    state_of(NULL_POINTER, 0, 0);
-    state_of(OUT_OF_REACH, 0, 0);
-    state_of(side, 1, 1);
-    state_of(side, CSENGADRUL_STATE_SIZE - 1, CSENGADRUL_STATE_SIZE - 1);
-    state_of(side, CSENGADRUL_STATE_SIZE + 1, CSENGADRUL_STATE_SIZE + 1);
-    state_of(OUT_OF_REACH, HUGE_LENGTH, 0);
-    state_of(OUT_OF_REACH, HUGE_LENGTH + CSENGADRUL_STATE_SIZE, 0);
-    state_of(OUT_OF_REACH, MOST, 0);
+/* A state or a store, which must have one length, is lent with every other one. */
+static void other_lengths(void (*lent)(enum lies, size_t, size_t), size_t right) {
+    lent(NULL_POINTER, 0, 0);
+    lent(OUT_OF_REACH, 0, 0);
+    lent(side, 1, 1);
+    lent(side, right - 1, right - 1);
+    lent(side, right + 1, right + 1);
+    lent(OUT_OF_REACH, HUGE_LENGTH, 0);
+    lent(OUT_OF_REACH, HUGE_LENGTH + right, 0);
+    lent(OUT_OF_REACH, MOST, 0);
     usual();
 }
 
@@ -313,18 +314,6 @@ static void store_of(enum lies lies, size_t told, size_t bytes) {
     lay(STORE, lies, told, bytes);
     expect("send with another store", SEND, 1, CSENGADRUL_OTHER_STORE, 0, 1);
     expect("read with another store", READ, 0, CSENGADRUL_OTHER_STORE, 0, 1);
-}
-
-static void store_lengths(void) {
-    store_of(NULL_POINTER, 0, 0);
-    store_of(OUT_OF_REACH, 0, 0);
-    store_of(side, 1, 1);
-    store_of(side, CSENGADRUL_STORE_SIZE - 1, CSENGADRUL_STORE_SIZE - 1);
-    store_of(side, CSENGADRUL_STORE_SIZE + 1, CSENGADRUL_STORE_SIZE + 1);
-    store_of(OUT_OF_REACH, HUGE_LENGTH, 0);
-    store_of(OUT_OF_REACH, HUGE_LENGTH + CSENGADRUL_STORE_SIZE, 0);
-    store_of(OUT_OF_REACH, MOST, 0);
-    usual();
 }
 
 static void message_of(enum lies lies, size_t told, size_t bytes, uint32_t code) {
@@ -456,8 +445,8 @@ static void all(void) {
     table_of_the_paper();
     refusals_in_order();
     large_numbers();
-    state_lengths();
-    store_lengths();
+    other_lengths(state_of, CSENGADRUL_STATE_SIZE);
+    other_lengths(store_of, CSENGADRUL_STORE_SIZE);
     message_lengths();
     rooms_for(0);
     rooms_for(1);
