@@ -1,7 +1,11 @@
 // The mailboxes: rings of links in two tables. The tables may hold anything: where a link leads past the last node, nothing changes.
 // Each move has one return at its end: a second one would cost several copies of the tables.
+ghost use mathlib.Core.Path.{_≡_};
+ghost use mathlib.Core.List.{List, map};
+ghost use Prim.Native.Nat.{ℕ};
+ghost use Rattle.rings.specs.Walk.{tables};
 ghost use Rattle.rings.specs.Moves.{MadeFresh, JoinedRear, HasLeft, IsFirst, SaysEmpty, SaysAtLeast};
-ghost use Rattle.boxes.specs.Box.{buffers, mailboxes, tablesOf};
+ghost use Rattle.boxes.specs.Box.{buffers, mailboxes, num, tablesOf};
 
 const BUFFERS: u8 = sizes::BUFFERS as u8;
 
@@ -16,6 +20,51 @@ pub struct Bid(pub u8);
 pub struct Boxes {
     pub next: [Bid; NODES],
     pub prev: [Bid; NODES],
+}
+
+// The links as bytes, to be lent.
+pub fn bytes_of(links: [Bid; NODES]) -> [u8; NODES]
+    ensures { λ r. ⌜ r ≡ map num links ⌝ }
+{
+    let mut bytes = [0u8; NODES];
+    let mut n = 0;
+    while n < NODES {
+        let b = links[n];
+        bytes[n] = b.0;
+        n += 1;
+    }
+    bytes
+}
+
+// The first buffer of mailbox m by the links on; where it is empty, a number that is no buffer.
+fn first_by(next: &[u8; NODES], m: u32) -> u8
+    ensures { λ r. ⌜ ((prev : List ℕ) → IsFirst buffers mailboxes (tables (now (next .entry)) prev) m r) ⌝ }
+{
+    if m < MAILBOXES {
+        next[BUFFERS as usize + m as usize]
+    } else {
+        BUFFERS
+    }
+}
+
+// Whether mailbox m holds n messages or more, by the links on: those back are not read.
+pub fn at_least(next: &[u8; NODES], m: u32, n: u32) -> bool
+    ensures { λ r. ⌜ ((prev : List ℕ) → SaysAtLeast buffers mailboxes (tables (now (next .entry)) prev) m n r) ⌝ }
+{
+    if (BUFFERS as u32) < n {
+        return false;
+    }
+    let mut b = first_by(next, m);
+    let mut left = n;
+    while 0 < left {
+        if BUFFERS <= b {
+            return false;
+        }
+        let i = b as usize;
+        b = next[i];
+        left -= 1;
+    }
+    true
 }
 
 impl Boxes {
@@ -98,19 +147,8 @@ impl Boxes {
     pub fn holds_at_least(self, m: u32, n: u32) -> bool
         ensures { λ r. ⌜ SaysAtLeast buffers mailboxes (tablesOf self) m n r ⌝ }
     {
-        if (BUFFERS as u32) < n {
-            return false;
-        }
-        let mut b = self.first(m);
-        let mut left = n;
-        while 0 < left {
-            if BUFFERS <= b.0 {
-                return false;
-            }
-            let i = b.0 as usize;
-            b = self.next[i];
-            left -= 1;
-        }
-        true
+        let links = self.next;
+        let next = bytes_of(links);
+        at_least(&next, m, n)
     }
 }

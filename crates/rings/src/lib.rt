@@ -51,11 +51,11 @@ fn sized(next: &[u8], prev: &[u8], members: usize) -> bool
 }
 
 // One step from node a along the ring of `head`.
-fn advance(next: &[u8], prev: &[u8], members: usize, at: [u8; 32], head: usize, a: usize) -> Step
-    requires { ⌜ members ≤ 32 ⌝ }
-    ensures { λ r. ⌜ StepOf (tables (now (next .entry)) (now (prev .entry))) members at head a r ⌝ }
+fn advance(next: &[u8], prev: &[u8], members: usize, at: &[u8; 32], head: usize, a: usize) -> Step
+    requires { ⌜ (members ≤ 32) × (a < length (now next)) ⌝ }
+    ensures { λ r. ⌜ StepOf (tables (now (next .entry)) (now (prev .entry))) members (now (at .entry)) head a r ⌝ }
 {
-    let b = node(next, a);
+    let b = wide(next[a]);
     if node(prev, b) != a {
         return Step::Broken;
     }
@@ -71,21 +71,33 @@ fn advance(next: &[u8], prev: &[u8], members: usize, at: [u8; 32], head: usize, 
     Step::To(b)
 }
 
-// Round the ring of queue q, each member marked with q + 1.
-fn walk(next: &[u8], prev: &[u8], members: usize, at: [u8; 32], q: usize) -> Places
-    requires { ⌜ Sized members (now next) (now prev) × (q < length (now next) - members) ⌝ }
-    ensures { λ r. ⌜ Walk (tables (now (next .entry)) (now (prev .entry))) members (members + q) (q + 1) at (members + q) (r .ok) (r .at) ⌝ }
+// Whether a node is linked to itself: it is the node after it, and the node before it.
+fn alone(after: u8, ahead: u8, own: u8) -> bool
+    ensures { λ r. ⌜ Says r ((after ≡ own) × (ahead ≡ own)) ⌝ }
+{
+    if after != own {
+        return false;
+    }
+    ahead == own
+}
+
+// Round the ring of queue q, each member marked with q + 1. Most rings are a head alone, so that is asked first.
+fn walk(next: &[u8], prev: &[u8], members: usize, at: &mut [u8; 32], q: usize) -> bool
+    requires { ⌜ Sized members (now next) (now prev) × (q < length (now next) - members) × (length (now at) ≡ 32) ⌝ }
+    ensures { λ r. ⌜ Walk (tables (now (next .entry)) (now (prev .entry))) members (members + q) (q + 1) (now (at .entry)) (members + q) r (now (at .exit)) ⌝ }
 {
     let head = members + q;
+    if alone(next[head], prev[head], head as u8) {
+        return true;
+    }
     let mark = (q + 1) as u8;
-    let mut s = at;
     let mut a = head;
     loop {
-        match advance(next, prev, members, s, head, a) {
-            Step::Closes => return Places { ok: true, at: s },
-            Step::Broken => return Places { ok: false, at: s },
+        match advance(next, prev, members, at, head, a) {
+            Step::Closes => return true,
+            Step::Broken => return false,
             Step::To(b) => {
-                s[b] = mark;
+                at[b] = mark;
                 a = b;
             }
         }
@@ -101,47 +113,36 @@ fn sweep(next: &[u8], prev: &[u8], members: usize) -> Places
     let mut at = [0u8; 32];
     let mut q = 0;
     while q < queues {
-        let w = walk(next, prev, members, at, q);
-        let s = w.at;
-        if !w.ok {
-            return Places { ok: false, at: s };
+        if !walk(next, prev, members, &mut at, q) {
+            return Places { ok: false, at };
         }
-        at = s;
         q += 1;
     }
     Places { ok: true, at }
 }
 
-// Whether p is marked, or linked to itself.
-fn settled(next: &[u8], prev: &[u8], at: [u8; 32], p: usize) -> bool
-    requires { ⌜ p < 32 ⌝ }
-    ensures { λ r. ⌜ Says r (Settled (tables (now (next .entry)) (now (prev .entry))) at p) ⌝ }
+// Whether a member has a mark, or is linked to itself.
+fn settled(mark: u8, after: u8, ahead: u8, own: u8) -> bool
+    ensures { λ r. ⌜ Says r (mark ≡ 0 → (after ≡ own) × (ahead ≡ own)) ⌝ }
 {
-    if at[p] != 0 {
+    if mark != 0 {
         return true;
     }
-    if node(next, p) != p {
-        return false;
-    }
-    if node(prev, p) != p {
-        return false;
-    }
-    true
+    alone(after, ahead, own)
 }
 
-// Whether each member is marked, or linked to itself.
-fn all_settled(next: &[u8], prev: &[u8], members: usize, at: [u8; 32]) -> bool
-    requires { ⌜ members ≤ 32 ⌝ }
-    ensures { λ r. ⌜ Says r ((p : ℕ) → p < members → Settled (tables (now (next .entry)) (now (prev .entry))) at p) ⌝ }
+// Whether each member has a mark, or is linked to itself. All are asked, with no early exit: so compiled, 16 at once.
+fn all_settled(next: &[u8], prev: &[u8], members: usize, at: &[u8; 32]) -> bool
+    requires { ⌜ Sized members (now next) (now prev) ⌝ }
+    ensures { λ r. ⌜ Says r ((p : ℕ) → p < members → Settled (tables (now (next .entry)) (now (prev .entry))) (now (at .entry)) p) ⌝ }
 {
+    let mut all = true;
     let mut p = 0;
     while p < members {
-        if !settled(next, prev, at, p) {
-            return false;
-        }
+        all = all & settled(at[p], next[p], prev[p], p as u8);
         p += 1;
     }
-    true
+    all
 }
 
 // Whether the tables hold queues of the members below `members`, and where each of these stands.
@@ -161,7 +162,7 @@ pub fn standing(next: &[u8], prev: &[u8], members: usize) -> Places
         return none;
     }
     let at = w.at;
-    if !all_settled(next, prev, members, at) {
+    if !all_settled(next, prev, members, &at) {
         return none;
     }
     Places { ok: true, at }

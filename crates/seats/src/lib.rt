@@ -99,7 +99,7 @@ fn seat_fits(at: u8, runs: bool, class: u8, ticks: u8, unused: bool) -> bool
     block_fits(at, class, ticks)
 }
 
-// Whether every process has its seat.
+// Whether every process has its seat. All are asked, 16 at once as it is compiled.
 fn seats_fit(
     running: usize,
     at: [u8; PROCESSES],
@@ -115,15 +115,14 @@ fn seats_fit(
     if !is_vacant(at[0], false, class[0], ticks[0]) {
         return false;
     }
+    let mut all = true;
     let mut p = 1;
     while p < PROCESSES {
         let bit = bits::has_bit(unused, p as u32);
-        if !seat_fits(at[p], running == p, class[p], ticks[p], bit) {
-            return false;
-        }
+        all = all & seat_fits(at[p], running == p, class[p], ticks[p], bit);
         p += 1;
     }
-    true
+    all
 }
 
 // w with bit i as `on` says.

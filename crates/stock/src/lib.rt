@@ -3,13 +3,16 @@
 use bits::has_bit;
 use boxes::Bid;
 use boxes::Boxes;
+use boxes::bytes_of;
 use mail::Mail;
 use rings::Places;
 use sizes::BUFFERS;
 use sizes::PROCESSES;
 ghost use mathlib.Core.Path.{_≡_};
 ghost use mathlib.Core.List.{map};
+ghost use lib.ListN.{length};
 ghost use Rattle.rings.specs.Walk.{Says};
+ghost use Rattle.plain.specs.Sizes.{buffers};
 ghost use Rattle.boxes.specs.Box.{num, tablesOf};
 ghost use Rattle.mail.specs.Carries.{numbers};
 ghost use Rattle.stock.specs.Stock.{Answer};
@@ -26,28 +29,14 @@ const LONGEST: u16 = sizes::LONGEST as u16;
 // The place of a buffer in a hand. Elsewhere it is 0 for nowhere, m + 1 for mailbox m.
 const IN_HAND: u8 = sizes::MAILBOXES as u8 + 1;
 
-// The numbers in a table of links.
-fn bytes(links: [Bid; NODES]) -> [u8; NODES]
-    ensures { λ r. ⌜ r ≡ map num links ⌝ }
-{
-    let mut t = [0u8; NODES];
-    let mut i = 0;
-    while i < NODES {
-        let b = links[i];
-        t[i] = b.0;
-        i += 1;
-    }
-    t
-}
-
 // Whether the tables hold rings, and the place of each buffer that is queued.
 fn queued(boxes: Boxes) -> Places
     ensures { λ r. ⌜ Queued (tablesOf boxes) (r .ok) (r .at) ⌝ }
 {
     let n = boxes.next;
     let p = boxes.prev;
-    let next = bytes(n);
-    let prev = bytes(p);
+    let next = bytes_of(n);
+    let prev = bytes_of(p);
     rings::standing(&next, &prev, BUFFERS)
 }
 
@@ -55,9 +44,11 @@ fn queued(boxes: Boxes) -> Places
 fn few(boxes: Boxes) -> bool
     ensures { λ r. ⌜ Says r (Few (tablesOf boxes)) ⌝ }
 {
+    let links = boxes.next;
+    let next = bytes_of(links);
     let mut m = 0;
     while m < MAILBOXES {
-        if boxes.holds_at_least(m, CAPACITY + 1) {
+        if boxes::at_least(&next, m, CAPACITY + 1) {
             return false;
         }
         m += 1;
@@ -66,22 +57,22 @@ fn few(boxes: Boxes) -> bool
 }
 
 // A full hand gets its buffer b, which is at no other place; an empty one has 0.
-fn grasp(at: [u8; BUFFERS], full: bool, b: Bid) -> Places
-    ensures { λ r. ⌜ Grasped at full (b .0) (r .ok) (r .at) ⌝ }
+fn grasp(at: &mut [u8; BUFFERS], full: bool, b: u8) -> bool
+    requires { ⌜ length (now at) ≡ buffers ⌝ }
+    ensures { λ r. ⌜ Grasped (now (at .entry)) full b r (now (at .exit)) × (length (now (at .exit)) ≡ buffers) ⌝ }
 {
     if !full {
-        return Places { ok: b.0 == 0, at };
+        return b == 0;
     }
-    let i = b.0 as usize;
+    let i = b as usize;
     if BUFFERS <= i {
-        return Places { ok: false, at };
+        return false;
     }
     if at[i] != 0 {
-        return Places { ok: false, at };
+        return false;
     }
-    let mut s = at;
-    s[i] = IN_HAND;
-    Places { ok: true, at: s }
+    at[i] = IN_HAND;
+    true
 }
 
 // Each hand in turn gets its buffer; at first only the queued ones have a place.
@@ -92,12 +83,9 @@ fn handed(at: [u8; BUFFERS], hand: [Bid; PROCESSES], full: u32) -> Places
     let mut p = 0;
     while p < PROCESSES {
         let b = hand[p];
-        let g = grasp(s, has_bit(full, p as u32), b);
-        let t = g.at;
-        if !g.ok {
-            return Places { ok: false, at: t };
+        if !grasp(&mut s, has_bit(full, p as u32), b.0) {
+            return Places { ok: false, at: s };
         }
-        s = t;
         p += 1;
     }
     Places { ok: true, at: s }
@@ -119,17 +107,17 @@ fn buffer_fits(place: u8, length: u16, free: bool) -> bool
     !free
 }
 
+// Whether every buffer does. All are asked, 16 at once as it is compiled.
 fn buffers_fit(at: [u8; BUFFERS], length: [u16; BUFFERS], free: u32) -> bool
     ensures { λ r. ⌜ Says r (AllBuffers at length free) ⌝ }
 {
+    let mut all = true;
     let mut b = 0;
     while b < BUFFERS {
-        if !buffer_fits(at[b], length[b], has_bit(free, b as u32)) {
-            return false;
-        }
+        all = all & buffer_fits(at[b], length[b], has_bit(free, b as u32));
         b += 1;
     }
-    true
+    all
 }
 
 // Whether k holds sound mail.

@@ -2,20 +2,17 @@
 -- Assumes nothing.
 use Prim.Native.Nat.{ℕ, _+_, _-_, _≤_, _<_}
 use mathlib.Core.Bool.{Bool, true, false, not, true≢false}
-use mathlib.Core.List.{List, map}
+use mathlib.Core.List.{List}
 use mathlib.Core.Logic.{_≢_, ⊎-elim}
-use mathlib.Core.Path.{_≡_, refl, sym, ap, _∙_, subst}
+use mathlib.Core.Path.{_≡_, refl, sym, _∙_, subst}
 use native.Mathlib.Omega.{arith}
 use lib.Dec.{ltb, leb, eqb}
 use lib.ListN.{getD}
 use borrow.Author.Tests.{leb-true, leb-false, eqb-true, eqb-false, lt-ltb, le-ltb}
 use Rattle.lists.proofs.Laws.{same?}
 use Rattle.bits.specs.Word.{bits}
-use Rattle.rings.proofs.Units.{entry}
 use Rattle.rings.specs.Walk.{Says}
 use Rattle.rings.proofs.Decisions.{says}
-use Rattle.boxes.specs.Box.{num}
-use Rattle.boxes.specs.declared.Bid.{Bid}
 use Rattle.plain.specs.Sizes.{processes}
 use Rattle.waits.specs.Waits.{HandFits, LyingFits, WaitFits, AllFit, isHolding}
 
@@ -36,10 +33,6 @@ module _ (place : ℕ) (runs : Bool) where
 -- ---- what lies where one waits
 
 module _ (place : ℕ) (holding : ℕ → Bool) (count : ℕ → ℕ) where
-  lies : (b : Bool) → not b ≡ false → Says b (LyingFits place holding count) → LyingFits place holding count
-  lies true e s = s
-  lies false e s = absurd (true≢false e)
-
   pub lying-ready : place < 6 → LyingFits place holding count
   lying-ready h = record { at-mailbox = λ m b e. absurd (omega arith); at-semaphore = λ i b e. absurd (omega arith) }
 
@@ -64,17 +57,19 @@ module _ (place : ℕ) (holding : ℕ → Bool) (count : ℕ → ℕ) where
 
 -- ---- both, of one process and of all
 
-module _ (place : ℕ) (runs full : Bool) (holding : ℕ → Bool) (count : ℕ → ℕ) where
-  pub waits-not : (b : Bool) → not b ≡ true → Says b (LyingFits place holding count) → WaitFits place runs full holding count → ⊥
+module _ (place : ℕ) (runs : Bool) (holding : ℕ → Bool) (count : ℕ → ℕ) where
+  pub waits-not : (b : Bool) → not b ≡ true → Says b (HandFits place runs) → WaitFits place runs true holding count → ⊥
   waits-not true e s f = true≢false (sym e)
-  waits-not false e s f = s (f .lying)
+  waits-not false e s f = s (f .hand refl)
 
-  pub waits-full : (b r : Bool) → not b ≡ false → Says b (LyingFits place holding count) → full ≡ true → Says r (HandFits place runs) → Says r (WaitFits place runs full holding count)
-  waits-full b true e s f h = record { hand = λ g. h; lying = lies place holding count b e s }
-  waits-full b false e s f h = λ w. h (w .hand f)
+  pub waits-full : (b r : Bool) → not b ≡ false → Says b (HandFits place runs) → Says r (LyingFits place holding count) → Says r (WaitFits place runs true holding count)
+  waits-full true true e h s = record { hand = λ g. h; lying = s }
+  waits-full true false e h s = λ w. s (w .lying)
+  waits-full false r e h s = absurd (true≢false e)
 
-  pub waits-empty : (b : Bool) → not b ≡ false → Says b (LyingFits place holding count) → full ≡ false → WaitFits place runs full holding count
-  waits-empty b e s f = record { hand = λ g. absurd (true≢false (sym g ∙ f)); lying = lies place holding count b e s }
+  pub waits-empty : (full r : Bool) → full ≡ false → Says r (LyingFits place holding count) → Says r (WaitFits place runs full holding count)
+  waits-empty full true f s = record { hand = λ g. absurd (true≢false (sym g ∙ f)); lying = s }
+  waits-empty full false f s = λ w. s (w .lying)
 
 -- the processes below p fit
 abbrev pub Below : List ℕ → ℕ → ℕ → List ℕ → List ℕ → ℕ → Type 0
@@ -91,7 +86,3 @@ module _ (at : List ℕ) (running full : ℕ) (next count : List ℕ) where
   pub not-all : (p : ℕ) (b : Bool) → 1 ≤ p → p < processes → not b ≡ true → Says b (Fits p) → AllFit at running full next count → ⊥
   not-all p true h h′ e s f = true≢false (sym e)
   not-all p false h h′ e s f = s (f .others p h h′)
-
--- the node after the head of the mailbox where one waits
-pub at-node : (next : List Bid) (place : ℕ) → 6 ≤ place → getD (map num next) (32 + (place - 6)) 0 ≡ num (getD next (32 + place - 6) (record { 0 = 0 }))
-at-node next place h = ap (λ (i : ℕ). getD (map num next) i 0) (omega arith) ∙ entry num (record { 0 = 0 }) refl next (32 + place - 6)

@@ -1,9 +1,7 @@
 // Whether processes and mail fit each other: nothing lies where a process waits, and only those hold a message who may. Assumes nothing.
-ghost use mathlib.Core.Path.{_≡_};
+ghost use mathlib.Core.Bool.{true};
 ghost use mathlib.Core.List.{map};
-ghost use Prim.Native.Nat.{ℕ, _≤_, _<_};
 ghost use lib.ListN.{getD};
-ghost use Rattle.bits.specs.Word.{bits};
 ghost use Rattle.boxes.specs.Box.{num};
 ghost use Rattle.rings.specs.Walk.{Says};
 ghost use Rattle.waits.specs.Waits.{HandFits, LyingFits, WaitFits, AllFit, isHolding};
@@ -36,16 +34,15 @@ fn may_hold(place: u8, runs: bool) -> bool
 }
 
 // Whether nothing lies, and nothing is counted, where a process with this place waits.
-fn lies_nothing(place: u8, next: [Bid; NODES], count: [u16; sizes::SEMAPHORES]) -> bool
-    ensures { λ r. ⌜ Says r (LyingFits place (isHolding (map num next)) (λ i. getD count i 0)) ⌝ }
+fn lies_nothing(place: u8, next: &[u8; NODES], count: &[u16; sizes::SEMAPHORES]) -> bool
+    ensures { λ r. ⌜ Says r (LyingFits place (isHolding (now (next .entry))) (λ i. getD (now (count .entry)) i 0)) ⌝ }
 {
     if place < AT_MAILBOXES {
         return true;
     }
     if place < AT_SEMAPHORES {
         let m = BUFFERS as usize + place as usize - AT_MAILBOXES as usize;
-        let first = next[m];
-        return BUFFERS <= first.0;
+        return BUFFERS <= next[m];
     }
     if place < NO_PLACE {
         let i = place as usize - AT_SEMAPHORES as usize;
@@ -54,23 +51,30 @@ fn lies_nothing(place: u8, next: [Bid; NODES], count: [u16; sizes::SEMAPHORES]) 
     true
 }
 
-// Whether a process fits what lies where it waits, and its hand its place.
+// Whether a process with a full hand may have it at its place, and fits what lies where it waits.
+fn holder_fits(place: u8, runs: bool, next: &[u8; NODES], count: &[u16; sizes::SEMAPHORES]) -> bool
+    ensures { λ r. ⌜ Says r (WaitFits place runs true (isHolding (now (next .entry))) (λ i. getD (now (count .entry)) i 0)) ⌝ }
+{
+    if !may_hold(place, runs) {
+        return false;
+    }
+    lies_nothing(place, next, count)
+}
+
+// Whether a process fits what lies where it waits, and a full hand its place.
 fn wait_fits(
     place: u8,
     runs: bool,
     full: bool,
-    next: [Bid; NODES],
-    count: [u16; sizes::SEMAPHORES],
+    next: &[u8; NODES],
+    count: &[u16; sizes::SEMAPHORES],
 ) -> bool
-    ensures { λ r. ⌜ Says r (WaitFits place runs full (isHolding (map num next)) (λ i. getD count i 0)) ⌝ }
+    ensures { λ r. ⌜ Says r (WaitFits place runs full (isHolding (now (next .entry))) (λ i. getD (now (count .entry)) i 0)) ⌝ }
 {
-    if !lies_nothing(place, next, count) {
-        return false;
-    }
     if full {
-        return may_hold(place, runs);
+        return holder_fits(place, runs, next, count);
     }
-    true
+    lies_nothing(place, next, count)
 }
 
 // Whether all of them do, and process 0 has an empty hand.
@@ -86,6 +90,7 @@ pub fn all_fit(
     if bits::has_bit(full, 0) {
         return false;
     }
+    let links = boxes::bytes_of(next);
     let mut p: u32 = 1;
     while p < PROCESSES {
         let i = p as usize;
@@ -94,8 +99,8 @@ pub fn all_fit(
             place,
             p == running as u32,
             bits::has_bit(full, p),
-            next,
-            count,
+            &links,
+            &count,
         ) {
             return false;
         }

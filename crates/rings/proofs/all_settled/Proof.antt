@@ -1,27 +1,36 @@
--- `rings::all_settled` meets its contract. The loop's invariant: every member below p is settled.
+-- `rings::all_settled` meets its contract. The loop's invariant: the answer says whether every member below p is settled.
 -- Assumes nothing.
-use borrow.Author.Count.{below-more}
-use borrow.Author.Tests.{not-true, not-false}
+use borrow.Author.Needs.{needs}
 use Prim.Native.Nat.{ℕ, _≤_, _<_, _-_}
 use native.Mathlib.Omega.{arith}
-use Rattle.rings.specs.Walk.{tables, Settled}
+use Rattle.rings.specs.Walk.{tables, Says, Settled}
+use Rattle.rings.proofs.Decisions.{says-as, says-more}
 use Rattle.rings.proofs.all_settled.Statement.{statement}
 use Rattle.rings.proofs.all_settled.Tie as tie
 
 abbrev Inv-loop : tie.InvT-loop
-Inv-loop next prev members at p₀ p = (p ≤ members) × ((i : ℕ) → i < p → Settled (tables next prev) at i)
+Inv-loop next prev members at all₀ p₀ all p = (p ≤ members) × Says all ((i : ℕ) → i < p → Settled (tables next prev) at i)
 
 abbrev μ-loop : tie.MeasureT-loop
-μ-loop next prev members at p₀ p = members - p
+μ-loop next prev members at all₀ p₀ all p = members - p
 
 loop-holds : tie.Need-loop-holds Inv-loop μ-loop
 loop-holds c = (omega arith, λ i h. absurd (omega arith))
 
-settled-requires : tie.Need-settled-requires Inv-loop μ-loop
-settled-requires c κs = omega arith
+element-copy-out-settled : tie.Need-element-copy-out-settled Inv-loop μ-loop
+element-copy-out-settled c = omega (arith, c .before .before .before .before .pre .few)
 
-returns : tie.Need-returns Inv-loop μ-loop
-returns c = λ r. (rw (not-true (c .before .settled .result) (c .if1 .taken)) at (c .before .settled .ensures)) (r (c .before .before .before .loop .p) (c .before .before .loop-test .taken))
+shared-slice-read-settled : tie.Need-shared-slice-read-settled Inv-loop μ-loop
+shared-slice-read-settled c = omega arith
+
+shared-slice-read-settled-2 : tie.Need-shared-slice-read-settled-2 Inv-loop μ-loop
+shared-slice-read-settled-2 c = omega arith
+
+cast-settled : tie.Need-cast-settled Inv-loop μ-loop
+cast-settled c = omega arith
+
+settled-requires : tie.Need-settled-requires Inv-loop μ-loop
+settled-requires c κs = search needs
 
 add-p : tie.Need-add-p Inv-loop μ-loop
 add-p c = omega arith
@@ -30,10 +39,14 @@ loop-less : tie.Need-loop-less Inv-loop μ-loop
 loop-less c = omega arith
 
 loop-again : tie.Need-loop-again Inv-loop μ-loop
-loop-again c = (omega arith, below-more _ _ (c .before .before .before .loop .inv .1) (rw (not-false (c .before .settled .result) (c .if1 .left)) at (c .before .settled .ensures)))
+loop-again c =
+    let l = c .before .before .before .before .before .loop in
+    let x = c .before .before .before .before .before .before .before .before .args in
+    let P = Settled (tables (x .next .now) (x .prev .now)) (x .at .now) in
+    (omega arith, says-more P (l .p) (l .all) (c .settled .result) (l .inv .1) (says-as (P (l .p)) (c .settled .result) (λ f e. record { to = f e .0; back = f e .1 }) (λ f e. (f e .to, f e .back)) (c .settled .ensures)))
 
-returns-2 : tie.Need-returns-2 Inv-loop μ-loop
-returns-2 c = λ p h. c .before .loop .inv .1 p (omega arith)
+returns : tie.Need-returns Inv-loop μ-loop
+returns c = let l = c .before .loop in says-as _ (l .all) (λ f p h. f p (omega arith)) (λ f p h. f p (omega arith)) (l .inv .1)
 
 pub all-settled-spec : {M : Type 1} → statement M
 all-settled-spec =
@@ -42,9 +55,12 @@ all-settled-spec =
     Inv-loop
     μ-loop
     loop-holds
+    element-copy-out-settled
+    shared-slice-read-settled
+    shared-slice-read-settled-2
+    cast-settled
     settled-requires
-    returns
     add-p
     loop-less
     loop-again
-    returns-2)
+    returns)

@@ -14,14 +14,31 @@ use Rattle.rings.proofs.walk.Statement.{statement}
 use Rattle.rings.proofs.walk.Tie as tie
 
 abbrev Inv-loop : tie.InvT-loop
-Inv-loop next prev members q head mark s₀ a₀ s a =
-    (length s ≡ 32) × ((ok : Bool) (s′ : List ℕ) → Walk (tables next prev) members (members + q) (q + 1) s a ok s′ → Walk (tables next prev) members (members + q) (q + 1) s₀ (members + q) ok s′)
+Inv-loop next prev members at₀ q head mark a₀ at a =
+    (length at ≡ 32) × (a < length next) × ((ok : Bool) (s′ : List ℕ) → Walk (tables next prev) members (members + q) (q + 1) at a ok s′ → Walk (tables next prev) members (members + q) (q + 1) at₀ (members + q) ok s′)
 
 abbrev μ-loop : tie.MeasureT-loop
-μ-loop next prev members q head mark s₀ a₀ s a = occurs 0 s
+μ-loop next prev members at₀ q head mark a₀ at a = occurs 0 at
 
 add-head : tie.Need-add-head Inv-loop μ-loop
 add-head c = omega arith
+
+shared-slice-read-alone : tie.Need-shared-slice-read-alone Inv-loop μ-loop
+shared-slice-read-alone c = omega arith
+
+shared-slice-read-alone-2 : tie.Need-shared-slice-read-alone-2 Inv-loop μ-loop
+shared-slice-read-alone-2 c = omega (arith, c .before .before .before .before .pre .0 .even)
+
+cast-alone : tie.Need-cast-alone Inv-loop μ-loop
+cast-alone c = omega (arith, c .before .before .before .before .pre .0 .small)
+
+alone-requires : tie.Need-alone-requires Inv-loop μ-loop
+alone-requires c κs = search needs
+
+returns : tie.Need-returns Inv-loop μ-loop
+returns c =
+    let e = rw (c .if1 .taken) at (c .before .alone .ensures) in
+    walk-closes _ _ _ _ _ _ (record { to = e .0; back = e .1 })
 
 add-mark : tie.Need-add-mark Inv-loop μ-loop
 add-mark c = omega arith
@@ -30,51 +47,55 @@ cast-mark : tie.Need-cast-mark Inv-loop μ-loop
 cast-mark c = omega arith
 
 loop-holds : tie.Need-loop-holds Inv-loop μ-loop
-loop-holds c = (search needs, λ ok s w. w)
+loop-holds c = (c .before .before .before .before .before .before .pre .2, omega arith, λ ok s w. w)
 
 advance-requires : tie.Need-advance-requires Inv-loop μ-loop
-advance-requires c κs = omega arith
+advance-requires c κs = (omega arith, omega arith)
 
 enum-told : tie.Need-enum-told Inv-loop μ-loop
 enum-told c = search needs
 
-returns : tie.Need-returns Inv-loop μ-loop
-returns c =
-    let l = c .before .before .before .loop in
-    l .inv .1 true (l .s) (walk-closes _ _ _ (l .s) (l .a) _ (rw (c .enum-told .given .1) at (c .before .before .advance .ensures)))
+returns-2 : tie.Need-returns-2 Inv-loop μ-loop
+returns-2 c =
+    let l = c .before .before .before .before .loop in
+    l .inv .2 true (l .at) (walk-closes _ _ _ (l .at) (l .a) _ (rw (c .enum-told .given .1) at (c .before .before .advance .ensures)))
 
 enum-told-2 : tie.Need-enum-told-2 Inv-loop μ-loop
 enum-told-2 c = search needs
 
-returns-2 : tie.Need-returns-2 Inv-loop μ-loop
-returns-2 c =
-    let l = c .before .before .before .loop in
-    l .inv .1 false (l .s) (walk-broken _ _ _ (l .s) (l .a) (rw (c .enum-told2 .given .1) at (c .before .before .advance .ensures)))
+returns-3 : tie.Need-returns-3 Inv-loop μ-loop
+returns-3 c =
+    let l = c .before .before .before .before .loop in
+    l .inv .2 false (l .at) (walk-broken _ _ _ (l .at) (l .a) (rw (c .enum-told2 .given .1) at (c .before .before .advance .ensures)))
 
 enum-known-b : tie.Need-enum-known-b Inv-loop μ-loop
 enum-known-b c = search needs
 
 -- the member that the walk goes on to
 goes : (c : tie.After-known-told Inv-loop μ-loop) →
-    let x = c .before .before .before .before .before .before .before .args in
-    Goes (tables (x .next .now) (x .prev .now)) (x .members) (c .before .before .before .before .loop .s) (c .before .before .before .before .loop .a) (c .before .b .given .0 .0)
+    let l = c .before .before .before .before .before in
+    let x = l .before .before .before .before .before .before .before .args in
+    Goes (tables (x .next .now) (x .prev .now)) (x .members) (l .loop .at) (l .loop .a) (c .before .b .given .0 .0)
 goes c = rw (c .before .b .given .1) at (c .before .before .before .advance .ensures)
 
 low : (c : tie.After-known-told Inv-loop μ-loop) → c .before .b .given .0 .0 < 32
-low c = omega (arith, goes c .member, c .before .before .before .before .before .before .before .pre .0 .few)
+low c = omega (arith, goes c .member, c .before .before .before .before .before .before .before .before .before .before .before .before .pre .0 .few)
 
-array-write-s : tie.Need-array-write-s Inv-loop μ-loop
-array-write-s c = low c
+element-write-at : tie.Need-element-write-at Inv-loop μ-loop
+element-write-at c = low c
 
 loop-less : tie.Need-loop-less Inv-loop μ-loop
 loop-less c =
-    let l = c .before .before .before .before .loop in
-    fewer-blanks (l .s) _ _ (omega (arith, low c, l .inv .0)) (goes c .blank) (omega arith)
+    let l = c .before .before .before .before .before .loop in
+    fewer-blanks (l .at) _ _ (omega (arith, low c, l .inv .0)) (goes c .blank) (omega arith)
 
 loop-again : tie.Need-loop-again Inv-loop μ-loop
 loop-again c =
-    let l = c .before .before .before .before .loop in
-    (simp length-set (l .inv .0), λ ok s w. l .inv .1 ok s (walk-on _ _ _ (l .s) (l .a) _ _ (goes c) (omega (arith, low c, l .inv .0)) (omega arith) ok s w))
+    let l = c .before .before .before .before .before .loop in (
+      simp length-set (l .inv .0),
+      omega (arith, goes c .member, c .before .before .before .before .before .before .before .before .before .before .before .before .pre .0 .inside),
+      λ ok s w. l .inv .2 ok s (walk-on _ _ _ (l .at) (l .a) _ _ (goes c) (omega (arith, low c, l .inv .0)) (omega arith) ok s w),
+    )
 
 pub walk-spec : {M : Type 1} → statement M
 walk-spec =
@@ -83,15 +104,20 @@ walk-spec =
     Inv-loop
     μ-loop
     add-head
+    shared-slice-read-alone
+    shared-slice-read-alone-2
+    cast-alone
+    alone-requires
+    returns
     add-mark
     cast-mark
     loop-holds
     advance-requires
     enum-told
-    returns
-    enum-told-2
     returns-2
+    enum-told-2
+    returns-3
     enum-known-b
-    array-write-s
+    element-write-at
     loop-less
     loop-again)

@@ -2,12 +2,11 @@
 -- Assumes nothing.
 use borrow.Author.Needs.{needs}
 use Prim.Native.Nat.{_≤_, _-_}
-use mathlib.Core.Path.{_≡_, refl, sym, _∙_}
+use mathlib.Core.Path.{_≡_, refl, _∙_}
 use mathlib.Core.List.{map}
 use native.Mathlib.Omega.{arith}
-use native.Mathlib.Numerals.{add-one}
-use lib.ListN.{length, take, length-set, length-map, getD, List·getD-map}
-use lib.Seq.{take-suc, take-suc-set, take-all}
+use lib.ListN.{length, take, length-set}
+use Rattle.rings.proofs.Units.{copied-more, copied-all}
 use Rattle.queues.specs.Queue.{num}
 use Rattle.seats.proofs.bytes_of.Statement.{statement}
 use Rattle.seats.proofs.bytes_of.Tie as tie
@@ -38,16 +37,14 @@ loop-again c =
     let l = c .before .before .loop in
     let links = c .before .before .before .args .t1 in
     let long : length links ≡ 69 = search needs in
-    let v = getD links (l .i) (record { 0 = 0 }) .0 in
-    (omega arith, length-set (l .bytes) (l .i) v ∙ l .inv .1, rw (add-one, take-suc-set (l .bytes) (l .i) v (omega arith), take-suc (map num links) (l .i) 0 (rw (length-map links num) (omega arith)), l .inv .2, List·getD-map num links (l .i) (record { 0 = 0 })))
+    (omega arith, length-set (l .bytes) (l .i) _ ∙ l .inv .1, copied-more num (record { 0 = 0 }) refl links (l .bytes) (l .i) (omega arith) (omega arith) (l .inv .2))
 
 returns : tie.Need-returns Inv-loop μ-loop
 returns c =
     let l = c .before .loop in
     let links = c .before .before .args .t1 in
-    let long : length links ≡ 69 = search needs in
     let all : l .i ≡ 69 = omega arith in
-    sym (take-all 69 (l .bytes) (omega arith)) ∙ (rw all at (l .inv .2)) ∙ take-all 69 (map num links) (rw (length-map links num) (omega arith))
+    copied-all num links (l .bytes) 69 (l .inv .1) (search needs) (rw all at (l .inv .2))
 
 pub bytes-of-spec : {M : Type 1} → statement M
 bytes-of-spec =

@@ -1,26 +1,27 @@
--- `seats::seats_fit` meets its contract. The loop's invariant: the seat of each process from 1 to p - 1 fits.
+-- `seats::seats_fit` meets its contract. The loop's invariant: the answer says whether the seat of each process from 1 to p - 1 fits.
 -- Assumes nothing.
 use borrow.Author.Needs.{needs}
 use Prim.Native.Nat.{ℕ, _≤_, _<_, _-_}
 use mathlib.Core.Path.{sym, _∙_}
 use borrow.Author.Tests.{not-true, not-false}
-use borrow.Author.Count.{below-more}
 use mathlib.Core.Bool.{true≢false}
 use native.Mathlib.Omega.{arith}
 use lib.ListN.{getD}
 use lib.Dec.{eqb}
 use Rattle.bits.specs.Word.{bits}
+use Rattle.rings.specs.Walk.{Says}
+use Rattle.rings.proofs.Decisions.{says-as, says-more}
 use Rattle.plain.specs.Sizes.{processes}
 use Rattle.seats.specs.Fits.{Seat}
 use Rattle.seats.proofs.seats_fit.Statement.{statement}
 use Rattle.seats.proofs.seats_fit.Tie as tie
 
 abbrev Inv-loop : tie.InvT-loop
-Inv-loop running unused at class ticks p₀ p =
-    (1 ≤ p) × (p ≤ processes) × ((i : ℕ) → i < p → 1 ≤ i → Seat (getD at i 0) (eqb running i) (getD class i 0) (getD ticks i 0) (bits unused i))
+Inv-loop running unused at class ticks all₀ p₀ all p =
+    (1 ≤ p) × (p ≤ processes) × Says all ((i : ℕ) → i < p → 1 ≤ i → Seat (getD at i 0) (eqb running i) (getD class i 0) (getD ticks i 0) (bits unused i))
 
 abbrev μ-loop : tie.MeasureT-loop
-μ-loop running unused at class ticks p₀ p = processes - p
+μ-loop running unused at class ticks all₀ p₀ all p = processes - p
 
 has-bit-requires : tie.Need-has-bit-requires Inv-loop μ-loop
 has-bit-requires c κs = search needs
@@ -64,12 +65,6 @@ array-read-seat-fits-3 c = search needs
 seat-fits-requires : tie.Need-seat-fits-requires Inv-loop μ-loop
 seat-fits-requires c κs = search needs
 
-returns-3 : tie.Need-returns-3 Inv-loop μ-loop
-returns-3 c = λ s.
-    let f = c .before .seat-fits in
-    let l = c .before .before .before .before .loop in
-    (rw (c .before .before .has-bit2 .ensures, not-true (f .result) (c .if3 .taken)) at (f .ensures)) (s .others (l .p) (omega arith) (l .inv .0))
-
 add-p : tie.Need-add-p Inv-loop μ-loop
 add-p c = search needs
 
@@ -78,18 +73,28 @@ loop-less c = search needs
 
 loop-again : tie.Need-loop-again Inv-loop μ-loop
 loop-again c =
-    let f = c .before .seat-fits in
-    let l = c .before .before .before .before .loop in
-    (omega arith, omega arith, below-more _ _ (l .inv .2) (λ u. rw (c .before .before .has-bit2 .ensures, not-false (f .result) (c .if3 .left)) at (f .ensures)))
+    let f = c .seat-fits in
+    let k = c .before .before .before in
+    let l = k .loop in
+    let x = k .before .before .before .before .before .args in
+    let S : ℕ → Type 0 = λ i. Seat (getD (x .t2) i 0) (eqb (x .running) i) (getD (x .t3) i 0) (getD (x .t4) i 0) (bits (x .unused) i) in (
+      omega arith,
+      omega arith,
+      says-more (λ i. 1 ≤ i → S i) (l .p) (l .all) (f .result) (l .inv .2) (says-as (1 ≤ l .p → S (l .p)) (f .result) (λ s u. s) (λ s. s (l .inv .0)) (rw (c .before .has-bit2 .ensures) at (f .ensures))),
+    )
 
-returns-4 : tie.Need-returns-4 Inv-loop μ-loop
-returns-4 c =
+returns-3 : tie.Need-returns-3 Inv-loop μ-loop
+returns-3 c =
     let z = c .before .before in
-    record {
+    let l = c .before .loop in
+    says-as _ (l .all)
+    (λ s. record {
       null-used = sym (z .before .before .before .has-bit .ensures) ∙ z .before .before .if1 .left;
       null = rw (not-false (z .before .is-vacant .result) (z .if2 .left)) at (z .before .is-vacant .ensures);
-      others = λ p h u. c .before .loop .inv .2 p (omega arith) u;
-    }
+      others = λ p h u. s p (omega arith) u;
+    })
+    (λ s p h u. s .others p (omega arith) u)
+    (l .inv .2)
 
 pub seats-fit-spec : {M : Type 1} → statement M
 seats-fit-spec =
@@ -111,8 +116,7 @@ seats-fit-spec =
     array-read-seat-fits-2
     array-read-seat-fits-3
     seat-fits-requires
-    returns-3
     add-p
     loop-less
     loop-again
-    returns-4)
+    returns-3)

@@ -1,21 +1,21 @@
--- `stock::buffers_fit` meets its contract. The invariant: every buffer below b fits. Assumes nothing.
-use borrow.Author.Needs.{needs}
-use borrow.Author.Count.{below-more}
-use borrow.Author.Tests.{not-true, not-false}
+-- `stock::buffers_fit` meets its contract. The invariant: the answer says whether every buffer below b fits. Assumes nothing.
 use Prim.Native.Nat.{ℕ, _≤_, _<_, _-_}
 use native.Mathlib.Omega.{arith}
 use lib.ListN.{getD}
 use Rattle.bits.specs.Word.{bits}
+use Rattle.rings.specs.Walk.{Says}
+use Rattle.rings.proofs.Decisions.{says-as, says-more}
 use Rattle.plain.specs.Sizes.{buffers}
 use Rattle.stock.specs.Tests.{BufferFits}
+use borrow.Author.Needs.{needs}
 use Rattle.stock.proofs.buffers_fit.Statement.{statement}
 use Rattle.stock.proofs.buffers_fit.Tie as tie
 
 abbrev Inv-loop : tie.InvT-loop
-Inv-loop free at length b₀ b = (b ≤ buffers) × ((i : ℕ) → i < b → BufferFits (getD at i 0) (getD length i 0) (bits free i))
+Inv-loop free at length all₀ b₀ all b = (b ≤ buffers) × Says all ((i : ℕ) → i < b → BufferFits (getD at i 0) (getD length i 0) (bits free i))
 
 abbrev μ-loop : tie.MeasureT-loop
-μ-loop free at length b₀ b = buffers - b
+μ-loop free at length all₀ b₀ all b = buffers - b
 
 loop-holds : tie.Need-loop-holds Inv-loop μ-loop
 loop-holds c = (omega arith, λ i h. absurd (omega arith))
@@ -38,12 +38,6 @@ has-bit-requires c κs = search needs
 buffer-fits-requires : tie.Need-buffer-fits-requires Inv-loop μ-loop
 buffer-fits-requires c κs = search needs
 
-returns : tie.Need-returns Inv-loop μ-loop
-returns c =
-    let r = c .before .buffer-fits in
-    let l = c .before .before .before .before .loop in
-    λ w. (rw (not-true (r .result) (c .if1 .taken)) at (r .ensures)) (rw (c .before .before .has-bit .ensures) (w (l .b) (omega arith)))
-
 add-b : tie.Need-add-b Inv-loop μ-loop
 add-b c = search needs
 
@@ -52,12 +46,14 @@ loop-less c = search needs
 
 loop-again : tie.Need-loop-again Inv-loop μ-loop
 loop-again c =
-    let r = c .before .buffer-fits in
-    let l = c .before .before .before .before .loop in
-    (omega arith, below-more _ _ (l .inv .1) (rw (← c .before .before .has-bit .ensures) (rw (not-false (r .result) (c .if1 .left)) at (r .ensures))))
+    let r = c .buffer-fits in
+    let l = c .before .before .before .loop in
+    let x = c .before .before .before .before .args in
+    let P : ℕ → Type 0 = λ i. BufferFits (getD (x .t1) i 0) (getD (x .t2) i 0) (bits (x .free) i) in
+    (omega arith, says-more P (l .b) (l .all) (r .result) (l .inv .1) (rw (c .before .has-bit .ensures) at (r .ensures)))
 
-returns-2 : tie.Need-returns-2 Inv-loop μ-loop
-returns-2 c = λ b h. c .before .loop .inv .1 b (omega arith)
+returns : tie.Need-returns Inv-loop μ-loop
+returns c = let l = c .before .loop in says-as _ (l .all) (λ f b h. f b (omega arith)) (λ f b h. f b (omega arith)) (l .inv .1)
 
 pub buffers-fit-spec : {M : Type 1} → statement M
 buffers-fit-spec =
@@ -72,8 +68,7 @@ buffers-fit-spec =
     cast-has-bit
     has-bit-requires
     buffer-fits-requires
-    returns
     add-b
     loop-less
     loop-again
-    returns-2)
+    returns)

@@ -1,26 +1,27 @@
 -- `waits::all_fit` meets its contract. Assumes nothing.
 use Prim.Native.Nat.{_≤_, _-_}
 use mathlib.Core.Bool.{true≢false}
-use mathlib.Core.List.{map}
 use mathlib.Core.Path.{sym, _∙_}
 use native.Mathlib.Omega.{arith}
-use borrow.Author.Needs.{needs}
-use Rattle.boxes.specs.Box.{num}
 use Rattle.waits.proofs.Waiting.{Below, one-more, not-all}
+use borrow.Author.Needs.{needs}
 use Rattle.waits.proofs.all_fit.Statement.{statement}
 use Rattle.waits.proofs.all_fit.Tie as tie
 
 abbrev Inv-loop : tie.InvT-loop
-Inv-loop running full next count at p₀ p = (1 ≤ p) × (p ≤ 32) × Below at running full (map num next) count p
+Inv-loop running full at count links p₀ p = (1 ≤ p) × (p ≤ 32) × Below at running full links count p
 
 abbrev μ-loop : tie.MeasureT-loop
-μ-loop running full next count at p₀ p = 32 - p
+μ-loop running full at count links p₀ p = 32 - p
 
 has-bit-requires : tie.Need-has-bit-requires Inv-loop μ-loop
 has-bit-requires c κs = search needs
 
 returns : tie.Need-returns Inv-loop μ-loop
 returns c = λ f. true≢false (sym (sym (c .before .has-bit .ensures) ∙ c .if1 .taken) ∙ f .null)
+
+bytes-of-requires : tie.Need-bytes-of-requires Inv-loop μ-loop
+bytes-of-requires c κs = search needs
 
 loop-holds : tie.Need-loop-holds Inv-loop μ-loop
 loop-holds c = (search needs, search needs, λ q h h′. absurd (omega arith))
@@ -38,7 +39,11 @@ wait-fits-requires : tie.Need-wait-fits-requires Inv-loop μ-loop
 wait-fits-requires c κs = search needs
 
 returns-2 : tie.Need-returns-2 Inv-loop μ-loop
-returns-2 c = not-all (c .before .before .before .before .before .before .before .args .t1) (c .before .before .before .before .before .before .before .args .running) (c .before .before .before .before .before .before .before .args .full) (map num (c .before .before .before .before .before .before .before .args .next)) (c .before .before .before .before .before .before .before .args .count) (c .before .before .before .before .loop .p) (c .before .wait-fits .result) (c .before .before .before .before .loop .inv .0) (c .before .before .before .loop-test .taken) (c .if2 .taken) (rw (c .before .before .has-bit2 .ensures) at (c .before .wait-fits .ensures))
+returns-2 c =
+    let l = c .before .before .before .before .before .before in
+    let b = l .before .bytes-of in
+    let w = c .before .wait-fits in
+    rw (← b .ensures) (not-all _ _ _ (b .result) _ (l .loop .p) (w .result) (l .loop .inv .0) (c .before .before .before .before .before .loop-test .taken) (c .if2 .taken) (rw (c .before .before .before .before .has-bit2 .ensures) at (w .ensures)))
 
 add-p : tie.Need-add-p Inv-loop μ-loop
 add-p c = search needs
@@ -47,10 +52,21 @@ loop-less : tie.Need-loop-less Inv-loop μ-loop
 loop-less c = search needs
 
 loop-again : tie.Need-loop-again Inv-loop μ-loop
-loop-again c = (omega (arith, c .before .before .before .before .loop .inv .0), omega (arith, c .before .before .before .loop-test .taken), one-more (c .before .before .before .before .before .before .before .args .t1) (c .before .before .before .before .before .before .before .args .running) (c .before .before .before .before .before .before .before .args .full) (map num (c .before .before .before .before .before .before .before .args .next)) (c .before .before .before .before .before .before .before .args .count) (c .before .before .before .before .loop .p) (c .before .wait-fits .result) (c .if2 .left) (rw (c .before .before .has-bit2 .ensures) at (c .before .wait-fits .ensures)) (c .before .before .before .before .loop .inv .2))
+loop-again c =
+    let k = c .before .before .before .before .before .before in
+    let l = k .loop in
+    let x = k .before .before .before .before .args in
+    let w = c .before .wait-fits in (
+      omega (arith, l .inv .0),
+      omega (arith, c .before .before .before .before .before .loop-test .taken),
+      one-more (x .t1) (x .running) (x .full) (k .before .bytes-of .result) (x .t5) (l .p) (w .result) (c .if2 .left) (rw (c .before .before .before .before .has-bit2 .ensures) at (w .ensures)) (l .inv .2),
+    )
 
 returns-3 : tie.Need-returns-3 Inv-loop μ-loop
-returns-3 c = record { null = sym (c .before .before .before .has-bit .ensures) ∙ c .before .before .if1 .left; others = λ q h h′. c .before .loop .inv .2 q h (omega (arith, c .loop-test .left)) }
+returns-3 c =
+    let e = c .before .before .before in
+    let b = c .before .before .bytes-of in
+    rw (← b .ensures) (record { null = sym (e .before .has-bit .ensures) ∙ e .if1 .left; others = λ q h h′. c .before .loop .inv .2 q h (omega (arith, c .loop-test .left)) })
 
 pub all-fit-spec : {M : Type 1} → statement M
 all-fit-spec =
@@ -60,6 +76,7 @@ all-fit-spec =
     μ-loop
     has-bit-requires
     returns
+    bytes-of-requires
     loop-holds
     cast-i
     array-read-place
