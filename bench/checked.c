@@ -1,21 +1,6 @@
-/* The board's functions by a kernel in C that does all that the board does: it reads the image of
- * docs/IMAGE.md, decides whether the state is sound, works, and writes the image back. */
-#include "kernel.h"
-
-/* Copies a field between the image and the struct; x86-64 has the lowest byte first, as the image. */
-#define EACH_FIELD(copy) \
-    copy(running) copy(class_of) copy(ticks) copy(next) copy(before) copy(ready) copy(unused) copy(box_next) \
-    copy(box_before) copy(hand) copy(full) copy(length) copy(free) copy(count)
-#define FROM_IMAGE(field) memcpy(&k->field, state, sizeof k->field); state += sizeof k->field;
-#define TO_IMAGE(field) memcpy(state, &k->field, sizeof k->field); state += sizeof k->field;
-
-static void read_image(struct kernel *k, const uint8_t *state) {
-    EACH_FIELD(FROM_IMAGE)
-}
-
-static void write_image(uint8_t *state, const struct kernel *k) {
-    EACH_FIELD(TO_IMAGE)
-}
+/* The decision as a C programmer may write it: the two tables of links are each other's inverse, the
+ * rings are walked without asking that again, and each test leaves at the first thing that is wrong. */
+#include "calls.h"
 
 /* Whether the node behind each node has that node before it: then the links are rings. */
 static int are_rings(const uint8_t *next, const uint8_t *before, unsigned nodes) {
@@ -116,83 +101,7 @@ static int counts_sound(const struct kernel *k) {
     return 1;
 }
 
-static int open_image(struct kernel *k, const uint8_t *state, size_t length) {
+static int is_sound(const struct kernel *k) {
     uint8_t place[32];
-    if (length != CSENGADRUL_STATE_SIZE) return 0;
-    read_image(k, state);
     return processes_sound(k, place) && mail_sound(k, place) && counts_sound(k);
-}
-
-static csengadrul_answer not_sound(void) {
-    csengadrul_answer a = {CSENGADRUL_NOT_SOUND, 0, 0};
-    return a;
-}
-
-/* A call that may change the state. */
-#define CALL(made) \
-    struct kernel k; \
-    csengadrul_answer a; \
-    if (!open_image(&k, state, length)) return not_sound(); \
-    a = made; \
-    write_image(state, &k); \
-    return a;
-
-csengadrul_answer csengadrul_fresh(uint8_t *state, size_t length) {
-    struct kernel k;
-    if (length != CSENGADRUL_STATE_SIZE) return not_sound();
-    kernel_fresh(&k);
-    write_image(state, &k);
-    return answer(&k, CSENGADRUL_DONE, 0);
-}
-
-csengadrul_answer csengadrul_create(uint8_t *state, size_t length, uint32_t class_number) {
-    CALL(kernel_create(&k, class_number))
-}
-
-csengadrul_answer csengadrul_stop(uint8_t *state, size_t length, uint32_t process) {
-    CALL(kernel_stop(&k, process))
-}
-
-csengadrul_answer csengadrul_end(uint8_t *state, size_t length) {
-    CALL(kernel_end(&k))
-}
-
-csengadrul_answer csengadrul_yield(uint8_t *state, size_t length) {
-    CALL(kernel_yield(&k))
-}
-
-csengadrul_answer csengadrul_class(uint8_t *state, size_t length, uint32_t class_number) {
-    CALL(kernel_class(&k, class_number))
-}
-
-csengadrul_answer csengadrul_tick(uint8_t *state, size_t length) {
-    CALL(kernel_tick(&k))
-}
-
-csengadrul_answer csengadrul_send(uint8_t *state, size_t length, uint8_t *store, size_t store_length, uint32_t mailbox,
-                                  const uint8_t *message, size_t message_length) {
-    CALL(kernel_send(&k, store, store_length, mailbox, message, message_length))
-}
-
-csengadrul_answer csengadrul_receive(uint8_t *state, size_t length, uint32_t mailbox) {
-    CALL(kernel_receive(&k, mailbox))
-}
-
-csengadrul_answer csengadrul_read(const uint8_t *state, size_t length, const uint8_t *store, size_t store_length,
-                                  uint8_t *room, size_t room_length) {
-    struct kernel k;
-    if (!open_image(&k, state, length)) return not_sound();
-    return kernel_read(&k, store, store_length, room, room_length);
-}
-
-csengadrul_answer csengadrul_release(uint8_t *state, size_t length) {
-    CALL(kernel_release(&k))
-}
-
-csengadrul_answer csengadrul_signal(uint8_t *state, size_t length, uint32_t semaphore) {
-    CALL(kernel_signal(&k, semaphore))
-}
-
-csengadrul_answer csengadrul_wait(uint8_t *state, size_t length, uint32_t semaphore) {
-    CALL(kernel_wait(&k, semaphore))
 }

@@ -71,3 +71,8 @@ csengadrul_answer csengadrul_wait(uint8_t *state, size_t length, uint32_t semaph
     (void)length;
     return kernel_wait(K, semaphore);
 }
+
+csengadrul_answer csengadrul_listing(const uint8_t *state, size_t length, csengadrul_row *rows, size_t row_count) {
+    (void)length;
+    return kernel_listing((const struct kernel *)(const void *)state, rows, row_count);
+}

@@ -278,4 +278,41 @@ static csengadrul_answer kernel_wait(struct kernel *k, uint32_t semaphore) {
     return answer(k, CSENGADRUL_WAITS, 0);
 }
 
+static csengadrul_row row_out_of_queues(const struct kernel *k, unsigned p) {
+    csengadrul_row row = {CSENGADRUL_UNUSED, 0, 0, 0, 0, 0, 0};
+    row.class_ = k->class_of[p];
+    row.ticks = k->ticks[p];
+    row.full = k->full >> p & 1;
+    row.length = row.full ? k->length[k->hand[p]] : 0;
+    return row;
+}
+
+/* The places of those in these queues, each queue walked once. */
+static void list_queues(const struct kernel *k, csengadrul_row *rows, uint8_t first_head, uint8_t queues,
+                        uint8_t place) {
+    uint8_t which, position, head, p;
+    for (which = 0; which < queues; which++) {
+        head = (uint8_t)(first_head + which);
+        position = 0;
+        for (p = k->next[head]; p != head; p = k->next[p]) {
+            rows[p].place = place;
+            rows[p].which = which;
+            rows[p].position = position++;
+        }
+    }
+}
+
+static csengadrul_answer kernel_listing(const struct kernel *k, csengadrul_row *rows, size_t row_count) {
+    unsigned p;
+    if (row_count < CSENGADRUL_PROCESSES) return answer(k, CSENGADRUL_SHORT_ROOM, CSENGADRUL_PROCESSES);
+    for (p = 0; p < CSENGADRUL_PROCESSES; p++) rows[p] = row_out_of_queues(k, p);
+    list_queues(k, rows, CLASS_HEAD, CSENGADRUL_CLASSES, CSENGADRUL_READY);
+    list_queues(k, rows, MAILBOX_HEAD, CSENGADRUL_MAILBOXES, CSENGADRUL_AT_MAILBOX);
+    list_queues(k, rows, SEMAPHORE_HEAD, CSENGADRUL_SEMAPHORES, CSENGADRUL_AT_SEMAPHORE);
+    rows[0].place = CSENGADRUL_STANDING_BY;
+    rows[k->running].place = CSENGADRUL_RUNNING;
+    rows[k->running].which = k->class_of[k->running];
+    return answer(k, CSENGADRUL_DONE, 0);
+}
+
 #endif

@@ -1,6 +1,6 @@
-/* One program for three kernels behind the board's functions: the board, in_place.c and checked.c.
+/* One program for four kernels behind the board's functions: the board, in_place.c, checked.c and flat.c.
  *
- *   measure answers SEED CALLS      makes random calls and prints every answer and every message read
+ *   measure answers SEED CALLS      makes random calls and prints every answer, every message read and all rows listed
  *   measure damage SEED IMAGES      prints whether each of that many damaged images is refused (not in_place)
  *   measure names                   prints the names of the calls below
  *   measure make NAME TIMES MADE    restores the same prepared state so many times, and makes that call in it
@@ -22,6 +22,7 @@ static union {
 } lent, prepared;
 static uint8_t *const state = lent.bytes;
 static uint8_t store[CSENGADRUL_STORE_SIZE], message[600], room[600];
+static csengadrul_row rows[CSENGADRUL_PROCESSES];
 
 static uint32_t seed;
 
@@ -35,11 +36,12 @@ static uint32_t pick(uint32_t limit) {
     return below(8) ? below(4) % limit : below(limit + 1);
 }
 
-static csengadrul_answer random_call(uint32_t *read_length) {
+/* So many bytes are shown of the room: the message read, or the whole table of rows. */
+static csengadrul_answer random_call(uint32_t *shown) {
     uint32_t length, i;
     csengadrul_answer a;
-    *read_length = 0;
-    switch (below(20)) {
+    *shown = 0;
+    switch (below(21)) {
     case 0:
     case 1:
     case 2: return csengadrul_create(S, pick(CSENGADRUL_CLASSES));
@@ -60,32 +62,37 @@ static csengadrul_answer random_call(uint32_t *read_length) {
     case 14: return csengadrul_receive(S, pick(CSENGADRUL_MAILBOXES));
     case 15:
         a = csengadrul_read(S, STORE, room, below(2) ? 512 : below(20));
-        if (a.code == CSENGADRUL_DONE) *read_length = a.number;
+        if (a.code == CSENGADRUL_DONE) *shown = a.number;
         return a;
     case 16: return csengadrul_release(S);
     case 17:
     case 18: return csengadrul_signal(S, pick(CSENGADRUL_SEMAPHORES));
+    case 19:
+        a = csengadrul_listing(S, rows, below(8) ? CSENGADRUL_PROCESSES : below(CSENGADRUL_PROCESSES));
+        memcpy(room, rows, sizeof rows);
+        *shown = sizeof rows;
+        return a;
     default: return csengadrul_wait(S, pick(CSENGADRUL_SEMAPHORES));
     }
 }
 
 static void answers(unsigned long calls) {
     unsigned long i;
-    uint32_t length, j;
+    uint32_t shown = 0, j;
     for (i = 0; i < calls; i++) {
-        csengadrul_answer a = i % 500 ? random_call(&length) : csengadrul_fresh(S);
+        csengadrul_answer a = i % 500 ? random_call(&shown) : csengadrul_fresh(S);
         printf("%lu %lu %lu", (unsigned long)a.code, (unsigned long)a.number, (unsigned long)a.running);
-        for (j = 0; i % 500 && j < length; j++) printf(" %02x", room[j]);
+        for (j = 0; i % 500 && j < shown; j++) printf(" %02x", room[j]);
         printf("\n");
     }
 }
 
 static void damage(unsigned long images) {
     unsigned long i;
-    uint32_t length, changes;
+    uint32_t shown, changes;
     csengadrul_fresh(S);
     for (i = 0; i < images; i++) {
-        random_call(&length);
+        random_call(&shown);
         memcpy(prepared.bytes, state, AREA);
         for (changes = below(3); changes < 3; changes++) {
             uint8_t *at = &state[below(CSENGADRUL_STATE_SIZE)];
@@ -160,6 +167,8 @@ static void prepare_hand_512(void) {
     row("signal, waking", prepare, csengadrul_signal(S, 5), CSENGADRUL_DONE) \
     row("wait", prepare, csengadrul_wait(S, 6), CSENGADRUL_DONE) \
     row("wait, waiting", prepare, csengadrul_wait(S, 9), CSENGADRUL_WAITS) \
+    row("listing", prepare_hand_16, csengadrul_listing(S, rows, CSENGADRUL_PROCESSES), CSENGADRUL_DONE) \
+    row("refused: listing of 31 rows", prepare_hand_16, csengadrul_listing(S, rows, 31), CSENGADRUL_SHORT_ROOM) \
     row("refused: yield of nobody", prepare_nobody, csengadrul_yield(S), CSENGADRUL_NO_CALLER) \
     row("refused: a damaged state", prepare_damaged, csengadrul_yield(S), CSENGADRUL_NOT_SOUND)
 
