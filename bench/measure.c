@@ -167,8 +167,8 @@ static void prepare_hand_512(void) {
     row("signal, waking", prepare, csengadrul_signal(S, 5), CSENGADRUL_DONE) \
     row("wait", prepare, csengadrul_wait(S, 6), CSENGADRUL_DONE) \
     row("wait, waiting", prepare, csengadrul_wait(S, 9), CSENGADRUL_WAITS) \
-    row("listing", prepare_hand_16, csengadrul_listing(S, rows, CSENGADRUL_PROCESSES), CSENGADRUL_DONE) \
-    row("refused: listing of 31 rows", prepare_hand_16, csengadrul_listing(S, rows, 31), CSENGADRUL_SHORT_ROOM) \
+    row("listing", prepare, csengadrul_listing(S, rows, CSENGADRUL_PROCESSES), CSENGADRUL_DONE) \
+    row("refused: listing of 31 rows", prepare, csengadrul_listing(S, rows, 31), CSENGADRUL_SHORT_ROOM) \
     row("refused: yield of nobody", prepare_nobody, csengadrul_yield(S), CSENGADRUL_NO_CALLER) \
     row("refused: a damaged state", prepare_damaged, csengadrul_yield(S), CSENGADRUL_NOT_SOUND)
 

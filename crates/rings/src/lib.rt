@@ -131,7 +131,7 @@ fn settled(mark: u8, after: u8, ahead: u8, own: u8) -> bool
     alone(after, ahead, own)
 }
 
-// Whether each member has a mark, or is linked to itself. All are asked, with no early exit: so compiled, 16 at once.
+// Whether each member has a mark, or is linked to itself. All are asked, with no early exit: so compiled, several at once.
 fn all_settled(next: &[u8], prev: &[u8], members: usize, at: &[u8; 32]) -> bool
     requires { ⌜ Sized members (now next) (now prev) ⌝ }
     ensures { λ r. ⌜ Says r ((p : ℕ) → p < members → Settled (tables (now (next .entry)) (now (prev .entry))) (now (at .entry)) p) ⌝ }

@@ -99,7 +99,7 @@ fn seat_fits(at: u8, runs: bool, class: u8, ticks: u8, unused: bool) -> bool
     block_fits(at, class, ticks)
 }
 
-// Whether every process has its seat. All are asked, 16 at once as it is compiled.
+// Whether every process has its seat. All are asked, with no early exit: so compiled, several at once.
 fn seats_fit(
     running: usize,
     at: [u8; PROCESSES],

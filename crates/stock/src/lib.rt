@@ -107,7 +107,7 @@ fn buffer_fits(place: u8, length: u16, free: bool) -> bool
     !free
 }
 
-// Whether every buffer does. All are asked, 16 at once as it is compiled.
+// Whether every buffer does. All are asked, with no early exit: so compiled, several at once.
 fn buffers_fit(at: [u8; BUFFERS], length: [u16; BUFFERS], free: u32) -> bool
     ensures { λ r. ⌜ Says r (AllBuffers at length free) ⌝ }
 {
