@@ -42,6 +42,13 @@
 extern "C" {
 #endif
 
+/* The version, major and minor: the minor goes up where something is added, the
+ * major where the image changes or an answer does, so that a state area kept from
+ * another major version is not to be lent. */
+#define CSENGADRUL_VERSION_MAJOR 1
+#define CSENGADRUL_VERSION_MINOR 0
+#define CSENGADRUL_VERSION (100 * CSENGADRUL_VERSION_MAJOR + CSENGADRUL_VERSION_MINOR)
+
 /* Sizes. */
 #define CSENGADRUL_STATE_SIZE 443    /* bytes of the state area */
 #define CSENGADRUL_STORE_SIZE 16384  /* bytes of the store */
@@ -54,6 +61,22 @@ extern "C" {
 #define CSENGADRUL_SEMAPHORES 16     /* 0 to 15 */
 #define CSENGADRUL_COUNT_LIMIT 65535 /* the highest count of a semaphore */
 #define CSENGADRUL_SLICE 3           /* ticks of a full slice */
+
+/* Where the fields of docs/IMAGE.md begin in the state area, for whoever looks at one. */
+#define CSENGADRUL_OFFSET_RUNNING 0          /* the running process */
+#define CSENGADRUL_OFFSET_CLASS 1            /* class of each process */
+#define CSENGADRUL_OFFSET_TICKS 33           /* ticks left of each process */
+#define CSENGADRUL_OFFSET_PROCESS_NEXT 65    /* process queues: the node after each node */
+#define CSENGADRUL_OFFSET_PROCESS_BEFORE 134 /* process queues: the node before each node */
+#define CSENGADRUL_OFFSET_READY_BITS 203     /* classes with someone ready */
+#define CSENGADRUL_OFFSET_UNUSED_BITS 207    /* unused processes */
+#define CSENGADRUL_OFFSET_MESSAGE_NEXT 211   /* mailboxes: the node after each node */
+#define CSENGADRUL_OFFSET_MESSAGE_BEFORE 259 /* mailboxes: the node before each node */
+#define CSENGADRUL_OFFSET_HAND 307           /* the buffer in the hand of each process */
+#define CSENGADRUL_OFFSET_FULL_BITS 339      /* processes with a full hand */
+#define CSENGADRUL_OFFSET_LENGTH 343         /* length of the message in each buffer, two bytes */
+#define CSENGADRUL_OFFSET_FREE_BITS 407      /* free buffers */
+#define CSENGADRUL_OFFSET_COUNT 411          /* count of each semaphore, two bytes */
 
 /* Codes of an answer. */
 enum {

@@ -1,0 +1,271 @@
+/*
+ * A small rack: firmware over the kernel, to begin a product from.
+ *
+ * The rider has a page; line by line it sends the preamp the settings that stand
+ * there and the printer the text. The meters take the readings that an interrupt
+ * brings. In the middle of the page the printer is stopped with a line in its
+ * hand, and started again later. Standard output is the paper, standard error is
+ * what the operator sees. The status is 0 only if everything in check_all holds.
+ *
+ * A task is a step function. The kernel says who runs, and the main loop takes a
+ * step of that task. A step ends where another task may run next; the following
+ * one begins when what it waited for is there. Interrupts are simulated: the main
+ * loop calls their handlers, which would do the same in the middle of a call.
+ */
+#include "csengadrul.h"
+#include "csengadrul_text.h"
+#include "ring.h"
+
+#include <stdio.h>
+#include <stdlib.h>
+#include <string.h>
+
+#define TURN_LIMIT 1000  /* turns of the main loop; the page takes far fewer */
+#define METER_TURNS 3    /* turns from one reading to the next */
+#define TIMER_TURNS 5    /* turns from one tick to the next */
+#define STOPPED_TURNS 40 /* turns that the printer stays stopped */
+#define LINE_SIZE 64     /* bytes of the longest line, with the zero behind it */
+#define CHANNELS 32
+
+enum { PRINTER, PREAMP, METERS };                       /* mailboxes */
+enum { NEED };                                          /* a semaphore: the printer needs a line */
+enum { SHARED_CLASS = 1, PRINTER_CLASS, PREAMP_CLASS }; /* the rider and the meters share one, by the timer */
+enum { CHANNEL, GAIN, PHANTOM, SETTING_SIZE };          /* bytes of a setting: number, dB, 48 V */
+
+static const struct {
+    char text[LINE_SIZE];
+    uint8_t setting[SETTING_SIZE]; /* channel 0: none */
+} page[] = {
+    {"MONITOR WORLD - PAGE 2 OF 5", {0, 0, 0}},
+    {"FOH desk at stage level, 24 m out, on axis", {0, 0, 0}},
+    {" 1 kick in       beta 91, no pad", {1, 24, 0}},
+    {" 2 kick out      d6, gate from ch 1", {2, 28, 0}},
+    {" 3 snare top     57, pad 10 dB", {3, 30, 0}},
+    {" 8 bass DI       48 V on, lift ground", {8, 20, 1}},
+    {" 9 keys L        passive DI", {9, 18, 0}},
+    {"10 keys R        passive DI", {10, 18, 0}},
+    {"14 ribbon OH     R84", {14, 42, 0}},
+    {"no phantom power on 14", {14, 42, 0}}
+};
+#define LINES (sizeof page / sizeof *page)
+
+static uint8_t state[CSENGADRUL_STATE_SIZE];
+static uint8_t store[CSENGADRUL_STORE_SIZE];
+static uint8_t room[CSENGADRUL_MESSAGE_SIZE]; /* one for all tasks: no step leaves anything in it */
+static ring control;                          /* the timer's and the printer's interrupts */
+static ring meters;                           /* apart, as a tick must not wait until METERS has room */
+
+static char paper[LINES][LINE_SIZE];
+static size_t printed; /* lines on paper */
+static uint8_t preamp[CHANNELS][SETTING_SIZE];
+static volatile unsigned readings; /* that the handler has put */
+static unsigned arrived;           /* of these, whole and in order */
+static uint8_t peak;
+
+typedef void (*step)(void);
+static step steps[CSENGADRUL_PROCESSES];
+static uint32_t printer;       /* its process; 0 while it is stopped */
+static unsigned stopped_since; /* the turn */
+
+static void fail(const char *what, const char *why) {
+    fprintf(stderr, "rack: %s: %s\n", what, why);
+    exit(1);
+}
+
+/* Hands on an answer with the code 0 or the other one that is counted on. */
+static csengadrul_answer expect(const char *call, csengadrul_answer answer, uint32_t other) {
+    if (answer.code != CSENGADRUL_DONE && answer.code != other) fail(call, csengadrul_code_text(answer.code));
+    return answer;
+}
+
+/* Takes the message in the running task's hand to the room and frees its buffer. With
+ * an empty hand the task receives instead, and has a message when it runs again. */
+static int take_message(uint32_t mailbox, size_t *length) {
+    csengadrul_answer answer = csengadrul_read(state, sizeof state, store, sizeof store, room, sizeof room);
+    if (answer.code == CSENGADRUL_HAND_EMPTY) {
+        expect("receive", csengadrul_receive(state, sizeof state, mailbox), CSENGADRUL_WAITS);
+        return 0;
+    }
+    *length = expect("read", answer, CSENGADRUL_DONE).number;
+    expect("release", csengadrul_release(state, sizeof state), CSENGADRUL_DONE);
+    return 1;
+}
+
+static void send(uint32_t mailbox, const uint8_t *message, size_t length) {
+    csengadrul_answer answer = csengadrul_send(state, sizeof state, store, sizeof store, mailbox, message, length);
+    expect("send", answer, CSENGADRUL_DONE);
+}
+
+static void print(const uint8_t *text, size_t length) {
+    if (printed == LINES || length >= LINE_SIZE) fail("printer", "that is no line of the page");
+    memcpy(paper[printed], text, length);
+    if (printf("%s\n", paper[printed]) < 0 || fflush(stdout) != 0) fail("printer", "no paper");
+    printed++;
+}
+
+/* Prints a line and asks for another. One that is on paper already, which may come
+ * again after a new start, is passed over. */
+static void printer_step(void) {
+    size_t length;
+    if (!take_message(PRINTER, &length) || room[0] != printed) return;
+    print(room + 1, length - 1);
+    expect("signal", csengadrul_signal(state, sizeof state, NEED), CSENGADRUL_DONE);
+}
+
+static void send_line(size_t number) {
+    uint8_t message[1 + LINE_SIZE];
+    size_t length = strlen(page[number].text);
+    message[0] = (uint8_t)number;
+    memcpy(message + 1, page[number].text, length);
+    send(PRINTER, message, 1 + length);
+}
+
+/* When the printer needs a line, recalls and sends the first that is not on paper.
+ * So the one that a stopped printer had in its hand goes to the new printer. */
+static void rider_step(void) {
+    static enum { WAIT, RECALL, SEND } next = WAIT;
+    static size_t number;
+    if (next == WAIT) {
+        next = RECALL;
+        expect("wait", csengadrul_wait(state, sizeof state, NEED), CSENGADRUL_WAITS);
+    } else if (next == RECALL) {
+        next = SEND;
+        number = printed;
+        if (number == LINES) expect("end", csengadrul_end(state, sizeof state), CSENGADRUL_DONE);
+        else if (page[number].setting[CHANNEL] != 0) send(PREAMP, page[number].setting, SETTING_SIZE);
+    } else {
+        next = WAIT;
+        send_line(number);
+    }
+}
+
+static void preamp_step(void) {
+    size_t length;
+    if (!take_message(PREAMP, &length)) return;
+    if (length != SETTING_SIZE || room[CHANNEL] >= CHANNELS) fail("preamp", "that is no setting");
+    memcpy(preamp[room[CHANNEL]], room, SETTING_SIZE);
+}
+
+static void meters_step(void) {
+    size_t length;
+    if (!take_message(METERS, &length) || length != 2 || room[0] != (uint8_t)arrived) return;
+    arrived++;
+    if (room[1] > peak) peak = room[1];
+}
+
+/* Handlers. What finds no room in a ring is counted there. */
+static void meter_handler(void) {
+    uint8_t reading[2];
+    reading[0] = (uint8_t)readings;
+    reading[1] = (uint8_t)(37 * readings % 101); /* a level */
+    if (ring_put_send(&meters, METERS, reading, sizeof reading)) readings = readings + 1;
+}
+
+static void timer_handler(void) {
+    ring_put_tick(&control);
+}
+
+static uint32_t start(step task, uint32_t process_class) {
+    uint32_t process = expect("create", csengadrul_create(state, sizeof state, process_class), CSENGADRUL_DONE).number;
+    steps[process] = task;
+    return process;
+}
+
+static void start_printer(void) {
+    printer = start(printer_step, PRINTER_CLASS);
+    ring_put_signal(&control, NEED); /* as its handler does when it comes on line */
+}
+
+static void power_on(void) {
+    expect("fresh", csengadrul_fresh(state, sizeof state), CSENGADRUL_DONE);
+    memset(preamp, 1, sizeof preamp); /* 48 V on everywhere, as the last show left it */
+    start(preamp_step, PREAMP_CLASS);
+    start(rider_step, SHARED_CLASS);
+    start(meters_step, SHARED_CLASS);
+    start_printer();
+}
+
+static const csengadrul_row *listing(void) {
+    static csengadrul_row rows[CSENGADRUL_PROCESSES];
+    expect("listing", csengadrul_listing(state, sizeof state, rows, CSENGADRUL_PROCESSES), CSENGADRUL_DONE);
+    return rows;
+}
+
+static void operate(unsigned turn) {
+    if (stopped_since == 0 && printed == LINES / 2 && listing()[printer].full) {
+        expect("stop", csengadrul_stop(state, sizeof state, printer), CSENGADRUL_DONE);
+        printer = 0;
+        stopped_since = turn;
+        fprintf(stderr, "rack: printer stopped with a line in its hand\n");
+    } else if (printer == 0 && turn == stopped_since + STOPPED_TURNS) {
+        start_printer();
+        fprintf(stderr, "rack: printer started again\n");
+    }
+}
+
+/* CRC-16 of the state area. The kernel refuses damage, unless by chance it makes
+ * another sound state; a sum that is kept from turn to turn tells that too. */
+static uint32_t sum_of_state(void) {
+    uint32_t sum = 0xffff;
+    size_t i, bit;
+    for (i = 0; i < sizeof state; i++) {
+        sum ^= (uint32_t)state[i] << 8;
+        for (bit = 0; bit < 8; bit++) sum = (sum << 1 ^ (sum & 0x8000 ? 0x1021 : 0)) & 0xffff;
+    }
+    return sum;
+}
+
+static void drain(ring *r) {
+    uint32_t code = ring_drain(r, state, sizeof state, store, sizeof store);
+    if (code == CSENGADRUL_MAILBOX_FULL || code == CSENGADRUL_NO_BUFFER) return; /* the next turn goes on with it */
+    if (code != CSENGADRUL_DONE) fail("ring", csengadrul_code_text(code));
+}
+
+static uint32_t running(void) { /* the same number as in the last answer */
+    return state[CSENGADRUL_OFFSET_RUNNING];
+}
+
+static int is_at_rest(void) {
+    return printed == LINES && running() == 0 && control.put == control.taken && meters.put == meters.taken;
+}
+
+static void check(int holds, const char *what) {
+    if (!holds) fail("not so", what);
+}
+
+static void check_all(void) {
+    const csengadrul_row *rows = listing();
+    size_t i;
+    for (i = 0; i < CSENGADRUL_PROCESSES; i++) check(!rows[i].full, "no hand is full");
+    for (i = 0; i < 4; i++) check(state[CSENGADRUL_OFFSET_FREE_BITS + i] == 0xff, "every buffer is free");
+    for (i = 0; i < LINES; i++) {
+        const uint8_t *setting = page[i].setting, *set = preamp[setting[CHANNEL]];
+        check(strcmp(paper[i], page[i].text) == 0, "every line is on paper, whole");
+        check(setting[CHANNEL] == 0 || memcmp(set, setting, SETTING_SIZE) == 0, "each preamp is set as the page says");
+    }
+    check(preamp[14][PHANTOM] == 0, "no phantom power on 14");
+    check(arrived == readings, "every reading arrived, whole and in order");
+    check(control.lost == 0 && meters.lost == 0, "the rings lost nothing");
+    check(stopped_since != 0 && printer != 0, "the printer was stopped and started again");
+    check(is_at_rest(), "the rack came to rest");
+}
+
+int main(void) {
+    unsigned turn;
+    uint32_t sum;
+    power_on();
+    sum = sum_of_state();
+    for (turn = 1; turn <= TURN_LIMIT && !is_at_rest(); turn++) {
+        if (turn % METER_TURNS == 0) meter_handler();
+        if (turn % TIMER_TURNS == 0) timer_handler();
+        if (sum_of_state() != sum) fail("state area", "written by another than the kernel");
+        drain(&control);
+        drain(&meters);
+        if (running() != 0) steps[running()](); /* else a board with empty rings sleeps until an interrupt comes */
+        operate(turn);
+        sum = sum_of_state();
+    }
+    check_all();
+    fprintf(stderr, "rack: the page is out, in %u turns; %u readings, peak %u\n", turn - 1, arrived, (unsigned)peak);
+    return 0;
+}

@@ -1,0 +1,37 @@
+/* Words for codes and places. Assumes nothing: every number has a text. */
+#include "csengadrul_text.h"
+
+const char *csengadrul_code_text(uint32_t code) {
+    switch (code) {
+    case CSENGADRUL_DONE: return "done";
+    case CSENGADRUL_NO_PROCESS: return "no such process";
+    case CSENGADRUL_NO_CLASS: return "no such class";
+    case CSENGADRUL_NO_MAILBOX: return "no such mailbox";
+    case CSENGADRUL_NO_SEMAPHORE: return "no such semaphore";
+    case CSENGADRUL_NO_CALLER: return "no process runs that could call this";
+    case CSENGADRUL_LONG_MESSAGE: return "the message is too long";
+    case CSENGADRUL_HAND_FULL: return "the caller has a message in hand already";
+    case CSENGADRUL_HAND_EMPTY: return "the caller has no message in hand";
+    case CSENGADRUL_SHORT_ROOM: return "the room or the table is too short";
+    case CSENGADRUL_ALL_PROCESSES: return "every process number is in use";
+    case CSENGADRUL_MAILBOX_FULL: return "the mailbox is full";
+    case CSENGADRUL_NO_BUFFER: return "no buffer is free";
+    case CSENGADRUL_COUNT_FULL: return "the semaphore counts as far as it can";
+    case CSENGADRUL_NOT_SOUND: return "the state area holds no sound state";
+    case CSENGADRUL_OTHER_STORE: return "the store has another length";
+    case CSENGADRUL_WAITS: return "done, and the caller waits";
+    default: return "no code of the kernel";
+    }
+}
+
+const char *csengadrul_place_text(uint32_t place) {
+    switch (place) {
+    case CSENGADRUL_UNUSED: return "unused";
+    case CSENGADRUL_RUNNING: return "running";
+    case CSENGADRUL_READY: return "ready";
+    case CSENGADRUL_AT_MAILBOX: return "waiting at a mailbox";
+    case CSENGADRUL_AT_SEMAPHORE: return "waiting at a semaphore";
+    case CSENGADRUL_STANDING_BY: return "standing by";
+    default: return "no place of the kernel";
+    }
+}

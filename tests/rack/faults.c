@@ -1,0 +1,45 @@
+/* Faults that the rack must notice. Each stands in for a call: tests/rack/run compiles rack.c with
+ * -Dcsengadrul_read=faulty_read or the like, and links it with this file. */
+#include "ring.h"
+
+#define CUT 16    /* bytes that are left of a message */
+#define DROPPED 5 /* the send that is lost */
+#define STRAY (CSENGADRUL_OFFSET_COUNT + 2 * (CSENGADRUL_SEMAPHORES - 1)) /* in a sound state it may be anything */
+
+/* A long message is cut, and handed on as if it were whole. */
+csengadrul_answer faulty_read(const uint8_t *state, size_t state_length, const uint8_t *store, size_t store_length,
+                              uint8_t *room, size_t room_length) {
+    csengadrul_answer answer = csengadrul_read(state, state_length, store, store_length, room, room_length);
+    if (answer.code == CSENGADRUL_DONE && answer.number > CUT) answer.number = CUT;
+    return answer;
+}
+
+/* Answers as if it were done, and does nothing. */
+csengadrul_answer faulty_release(uint8_t *state, size_t state_length) {
+    csengadrul_row rows[CSENGADRUL_PROCESSES];
+    return csengadrul_listing(state, state_length, rows, CSENGADRUL_PROCESSES);
+}
+
+/* Answers with a code that the rack does not count on. */
+csengadrul_answer faulty_stop(uint8_t *state, size_t state_length, uint32_t process) {
+    return csengadrul_stop(state, state_length, process + CSENGADRUL_PROCESSES);
+}
+
+/* A send is lost, and the handler is told that it is in the ring. */
+int faulty_put_send(ring *r, uint32_t mailbox, const uint8_t *message, size_t message_length) {
+    static unsigned sends;
+    return ++sends == DROPPED || ring_put_send(r, mailbox, message, message_length);
+}
+
+static uint8_t *state_area;
+
+csengadrul_answer faulty_fresh(uint8_t *state, size_t state_length) {
+    state_area = state;
+    return csengadrul_fresh(state, state_length);
+}
+
+/* A handler writes where it should not, and the state is still sound. */
+int faulty_put_tick(ring *r) {
+    state_area[STRAY]++;
+    return ring_put_tick(r);
+}
