@@ -18,9 +18,9 @@
  *    state area or store is under way, by an interrupt or on another processor.
  *
  * Every call answers, whatever the numbers are and whatever the areas hold.
- * An area that is not CSENGADRUL_STATE_SIZE bytes long, or that holds no image
+ * A state area that is not CSENGADRUL_STATE_SIZE bytes long, or that holds no image
  * of a sound state, is refused with CSENGADRUL_NOT_SOUND, and so is a damaged
- * one at the next call. A refusal, which is every code but CSENGADRUL_DONE and
+ * one at the next call; csengadrul_fresh alone looks at the length only. A refusal, which is every code but CSENGADRUL_DONE and
  * CSENGADRUL_WAITS, leaves every byte of every area as it was. Where several
  * refusals hold at once the first one in the order that stands with the call is
  * given.
@@ -100,7 +100,8 @@ enum {
 };
 
 /* An answer. `number` is 0 where a call does not say what it is. `running` is the
- * process that runs after the call. */
+ * process that runs after the call, which is also the byte at
+ * CSENGADRUL_OFFSET_RUNNING; with CSENGADRUL_NOT_SOUND it is 0. */
 typedef struct {
     uint32_t code;
     uint32_t number;
@@ -153,7 +154,8 @@ csengadrul_answer csengadrul_send(uint8_t *state, size_t state_length, uint8_t *
 
 /* The first message of the mailbox goes into the caller's hand. Number: its
  * length. If the mailbox is empty the caller joins the rear of its waiters;
- * choose; code 32, number 0. Refuses: 14, 5, 3, 7.
+ * choose; code 32, number 0. A process that waited has the message in hand when
+ * it runs again, and does not call this for it again. Refuses: 14, 5, 3, 7.
  * State: the next image. */
 csengadrul_answer csengadrul_receive(uint8_t *state, size_t state_length, uint32_t mailbox);
 
@@ -174,7 +176,8 @@ csengadrul_answer csengadrul_release(uint8_t *state, size_t state_length);
 csengadrul_answer csengadrul_signal(uint8_t *state, size_t state_length, uint32_t semaphore);
 
 /* The semaphore's count goes down by 1. At 0 the caller joins the rear of its
- * waiters instead; choose; code 32. Refuses: 14, 5, 4.
+ * waiters instead; choose; code 32. A process that waited has been signalled when
+ * it runs again, and does not call this for it again. Refuses: 14, 5, 4.
  * State: the next image. */
 csengadrul_answer csengadrul_wait(uint8_t *state, size_t state_length, uint32_t semaphore);
 

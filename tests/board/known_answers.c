@@ -8,8 +8,6 @@
 
 #define MOST ((size_t)-1)
 #define HUGE_LENGTH ((size_t)1 << 40)
-#define FREE_BITS 407 /* the place of the free buffers' bits in an image */
-#define COUNTS 411    /* the place of the semaphores' counts */
 #define STACK_LIMIT 4096
 #define TABLE_ROWS (CSENGADRUL_PROCESSES + 2)
 
@@ -60,7 +58,7 @@ static void usual(void) {
 
 static size_t lowest_free_buffer(const uint8_t *image) {
     size_t b = 0;
-    while (b < CSENGADRUL_BUFFERS && !(image[FREE_BITS + b / 8] >> (b % 8) & 1)) b++;
+    while (b < CSENGADRUL_BUFFERS && !(image[CSENGADRUL_OFFSET_FREE_BITS + b / 8] >> (b % 8) & 1)) b++;
     return b;
 }
 
@@ -198,7 +196,7 @@ static void table_of_the_paper(void) {
     create(1, 1, 1);
     expect("wait waits", WAIT, 15, CSENGADRUL_WAITS, 0, 0);
     expect("signal wakes", SIGNAL, 15, CSENGADRUL_DONE, 0, 1);
-    count(state[COUNTS + 30] == 0 && state[COUNTS + 31] == 0, "the count is still 0");
+    count(state[CSENGADRUL_OFFSET_COUNT + 30] == 0 && state[CSENGADRUL_OFFSET_COUNT + 31] == 0, "the count is still 0");
 }
 
 static void full_tables(void) {
@@ -223,7 +221,7 @@ static void full_tables(void) {
     expect("signal elsewhere", SIGNAL, 6, CSENGADRUL_DONE, 0, 0);
     create(0, 1, 1);
     expect("wait counts down", WAIT, 7, CSENGADRUL_DONE, 0, 1);
-    count(state[COUNTS + 14] == 0xfe && state[COUNTS + 15] == 0xff, "the count is 65,534");
+    count(state[CSENGADRUL_OFFSET_COUNT + 14] == 0xfe && state[CSENGADRUL_OFFSET_COUNT + 15] == 0xff, "the count is 65,534");
 }
 
 static void refusals_in_order(void) {
@@ -419,7 +417,7 @@ static void damaged_fresh_image(void) {
     for (i = 0; i < CSENGADRUL_STATE_SIZE; i++)
         for (j = 0; j < sizeof flips; j++) {
             state[i] ^= flips[j];
-            if (i < COUNTS) expect("a damaged byte", TICK, 0, CSENGADRUL_NOT_SOUND, 0, 0);
+            if (i < CSENGADRUL_OFFSET_COUNT) expect("a damaged byte", TICK, 0, CSENGADRUL_NOT_SOUND, 0, 0);
             else expect("another count", TICK, 0, CSENGADRUL_DONE, 0, 0);
             state[i] ^= flips[j];
         }

@@ -22,6 +22,24 @@ const LENGTH: usize = 343;
 const FREE_BITS: usize = 407;
 const COUNT: usize = 411;
 
+/// What the byte at this place belongs to.
+pub fn field_of(place: usize) -> &'static str {
+    let fields = [
+        (RUNNING, "running"),
+        (CLASS, "class"),
+        (TICKS, "ticks"),
+        (PROCESS_NEXT, "queues"),
+        (READY_BITS, "bits"),
+        (MESSAGE_NEXT, "mailboxes"),
+        (HAND, "hands"),
+        (FULL_BITS, "bits"),
+        (LENGTH, "length"),
+        (FREE_BITS, "bits"),
+        (COUNT, "count"),
+    ];
+    fields.iter().rfind(|(start, _)| *start <= place).map_or("", |(_, name)| name)
+}
+
 /// In both kinds of rings the members are nodes 0 to 31, and the head of queue q is node 32 + q.
 const FIRST_HEAD: usize = 32;
 

@@ -30,6 +30,16 @@ pub fn every_byte_changed(sound: &[u8], random: &mut Random) -> Vec<Vec<u8>> {
     areas
 }
 
+/// The image with each of its bits flipped in turn, bit by bit and byte by byte.
+pub fn every_bit_flipped(sound: &[u8]) -> Vec<Vec<u8>> {
+    let flipped = |bit: usize| {
+        let mut area = sound.to_vec();
+        area[bit / 8] ^= 1 << (bit % 8);
+        area
+    };
+    (0..8 * sound.len()).map(flipped).collect()
+}
+
 pub fn random_bytes(random: &mut Random) -> Vec<u8> {
     random.bytes(IMAGE_BYTES)
 }

@@ -5,11 +5,11 @@
 mod areas;
 mod driver;
 
-use areas::{damaged, every_byte_changed, out_of_place, random_bytes};
+use areas::{damaged, every_bit_flipped, every_byte_changed, out_of_place, random_bytes};
 use driver::{Batch, Board};
 use independent::call::Call;
 use independent::grammar::parse;
-use independent::image::{decide, image, take_bytes};
+use independent::image::{decide, field_of, image, take_bytes};
 use independent::kernel::{Kernel, BUFFER_BYTES, PROCESSES, STORE_BYTES};
 use independent::random::Random;
 use independent::scripts::Script;
@@ -19,7 +19,7 @@ use std::time::{SystemTime, UNIX_EPOCH};
 const FIXED_SEEDS: u64 = 64;
 const SEEDS_A_DAY: u64 = 8;
 const CALLS_A_SEED: u64 = 2_000;
-/// Every so many sequences, the image that it leads to has every byte changed in turn: eight, of all styles.
+/// Every so many sequences, the image that it leads to has every byte changed and every bit flipped in turn: eight, of all styles.
 const EVERY: usize = 9;
 const DAMAGED: usize = 20_000;
 const OUT_OF_PLACE: usize = 20_000;
@@ -106,13 +106,26 @@ fn judged(batch: &mut Batch, area: &[u8], store: &mut [u8], random: &mut Random)
     }
 }
 
-/// Judges areas with the board and the model, and prints how many are sound.
-fn judge_all(board: &mut Board, name: String, store: &mut [u8], areas: impl Iterator<Item = Vec<u8>>) -> io::Result<()> {
+/// Judges areas with the board and the model, and prints how many are sound. Gives the numbers of those.
+fn judge_all(board: &mut Board, name: String, store: &mut [u8], areas: impl Iterator<Item = Vec<u8>>) -> io::Result<Vec<usize>> {
     let mut random = Random::new(name.len() as u64);
     let mut batch = Batch::new(name.clone());
-    let sound = areas.filter(|area| judged(&mut batch, area, store, &mut random)).count();
+    let sound: Vec<usize> = areas.enumerate().filter(|(_, area)| judged(&mut batch, area, store, &mut random)).map(|(number, _)| number).collect();
     board.run(&batch)?;
-    println!("{name}: {}, of them sound: {sound}", batch.calls());
+    println!("{name}: {}, of them sound: {}", batch.calls(), sound.len());
+    Ok(sound)
+}
+
+/// Fields in which a flipped bit may leave a state that is sound.
+const UNNOTICED: [&str; 4] = ["class", "ticks", "length", "count"];
+
+/// Flips each bit in turn, and prints in which fields nobody can notice it.
+fn flip_all(board: &mut Board, name: &str, store: &mut [u8], sound: &[u8]) -> io::Result<()> {
+    let flips = judge_all(board, format!("one bit flipped, {name}"), store, every_bit_flipped(sound).into_iter())?;
+    let fields: Vec<&str> = flips.iter().map(|bit| field_of(bit / 8)).collect();
+    assert!(fields.iter().all(|field| UNNOTICED.contains(field)), "a flip in another field leaves a sound state");
+    let counts = UNNOTICED.map(|field| format!("{field} {}", fields.iter().filter(|other| **other == field).count()));
+    println!("  in {}", counts.join(", "));
     Ok(())
 }
 
@@ -132,14 +145,17 @@ fn compare(board: &mut Board, today: u64) -> io::Result<()> {
     for seed in (0..FIXED_SEEDS as usize).step_by(EVERY) {
         let areas = every_byte_changed(&images[seed], &mut Random::new(seed as u64));
         judge_all(board, format!("one byte changed after seed {seed}"), &mut store, areas.into_iter())?;
+        flip_all(board, &format!("after seed {seed}"), &mut store, &images[seed])?;
     }
+    flip_all(board, "fresh", &mut store, &image(&Kernel::fresh()))?;
     let mut random = Random::new(today);
     judge_all(board, format!("several bytes changed, seed {today}"), &mut store, (0..DAMAGED).map(|_| damaged(&images, &mut random)))?;
     let mut random = Random::new(today);
     let displaced = (0..OUT_OF_PLACE).map(|turn| out_of_place(&kernels[turn % kernels.len()], &mut random));
     judge_all(board, format!("things out of place, seed {today}"), &mut store, displaced)?;
     let mut random = Random::new(today);
-    judge_all(board, format!("random areas, seed {today}"), &mut store, (0..RANDOM_AREAS).map(|_| random_bytes(&mut random)))
+    judge_all(board, format!("random areas, seed {today}"), &mut store, (0..RANDOM_AREAS).map(|_| random_bytes(&mut random)))?;
+    Ok(())
 }
 
 fn main() -> io::Result<()> {
