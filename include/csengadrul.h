@@ -18,12 +18,12 @@
  *    state area or store is under way, by an interrupt or on another processor.
  *
  * Every call answers, whatever the numbers are and whatever the areas hold.
- * A state area that is not CSENGADRUL_STATE_SIZE bytes long, or that holds no image
- * of a sound state, is refused with CSENGADRUL_NOT_SOUND, and so is a damaged
- * one at the next call; csengadrul_fresh alone looks at the length only. A refusal, which is every code but CSENGADRUL_DONE and
- * CSENGADRUL_WAITS, leaves every byte of every area as it was. Where several
- * refusals hold at once the first one in the order that stands with the call is
- * given.
+ * A state area that is not CSENGADRUL_STATE_SIZE bytes long, or that holds no
+ * image of a sound state, is refused with CSENGADRUL_NOT_SOUND, and so is a
+ * damaged one at the next call; csengadrul_fresh alone looks at the length only.
+ * A refusal, which is every code but CSENGADRUL_DONE and CSENGADRUL_WAITS, leaves
+ * every byte of every area as it was. Where several refusals hold at once the
+ * first one in the order that stands with the call is given.
  *
  * "The caller" is the running process. A buffer "in hand" is the message that a
  * process received and has not released. "Choose" means: the first of the highest
