@@ -20,9 +20,9 @@ use Rattle.plain.specs.Sound.{Sound, AllShort, Short}
 use Rattle.plain.specs.State.{Message, State, fresh, buffersOf, inHand, held, free, freeBuffer}
 use Rattle.plain_laws.proofs.Calls.{judged}
 use Rattle.plain_laws.proofs.Refusals.{judge-cases, nonzero}
-use Rattle.kernel.specs.Promise.{written, withStore, storeAfter, inStore, StoredAll, Stored}
-use Rattle.kernel.specs.Theorems.{lendsNothing}
-use Rattle.kernel.proofs.Buffers.{anew-long, anew-there, other-kept}
+use Rattle.promise.specs.Promise.{written, withStore, storeAfter, inStore, StoredAll, Stored}
+use Rattle.promise.specs.Theorems.{lendsNothing}
+use Rattle.promise.proofs.Buffers.{anew-long, anew-there, other-kept}
 
 pub fresh-stored : (store : List ℕ) → length store ≡ storeSize → Stored store fresh
 fresh-stored store e = record { long = e; queued = λ m. tt; in-hands = λ p. refl }
