@@ -1,12 +1,12 @@
 // The kernel: its state by value, the decision whether a state is sound, and every call as a method that hands back the next state beside the answer.
 ghost use mathlib.Core.Path.{_≡_};
-ghost use mathlib.Core.List.{List, [], _∷_};
 ghost use Rattle.plain.specs.State.{State, fresh};
-ghost use Rattle.plain.specs.Calls as Plain;
 ghost use Rattle.kernel.specs.Holds.{Holds};
-ghost use Rattle.kernel.specs.Judged.{Judged, answered, refusedWith, verdict};
+ghost use Rattle.kernel.specs.Judged.{Gathered, answered, refusedWith};
 use mail::Mail;
 use procs::Procs;
+use verdicts::Facts;
+use verdicts::Verdict;
 
 mod letters;
 mod processes;
@@ -33,19 +33,6 @@ pub struct Answer {
 pub struct Done {
     pub state: Kernel,
     pub answer: Answer,
-}
-
-// What judging a call finds: a refusal, or code 0.
-pub struct Verdict {
-    pub code: u32,
-    pub number: u32,
-}
-
-// The verdict of a code that comes with no number.
-fn says(code: u32) -> Verdict
-    ensures { λ r. ⌜ r ≡ verdict code 0 ⌝ }
-{
-    Verdict { code, number: 0 }
 }
 
 impl Kernel {
@@ -110,16 +97,24 @@ impl Kernel {
         self
     }
 
-    // Calls that are refused only while 0 runs.
-    fn judge_idle(self) -> Verdict
-        ensures { λ r. ⌜ Judged (λ s. Plain.idle s ∷ []) self r ⌝ }
+    // What is read off the state before a call is judged.
+    fn facts(self) -> Facts
+        ensures { λ r. ⌜ Gathered self r ⌝ }
     {
-        if !self.is_sound() {
-            return says(14);
+        let mail = self.mail;
+        let runner = self.runner();
+        let sound = self.is_sound();
+        let hand = mail.has_message(runner);
+        let length = mail.length_in_hand(runner);
+        let unused = bits::lowest_bit(self.unused);
+        let free = mail.lowest_free();
+        Facts {
+            sound,
+            runner,
+            hand,
+            length,
+            unused,
+            free,
         }
-        if self.runner() == 0 {
-            return says(5);
-        }
-        says(0)
     }
 }

@@ -8,7 +8,7 @@ use Rattle.plain.specs.Calls.{Refusal}
 use Rattle.plain.specs.Listing.{fewRows}
 use Rattle.plain.specs.Sizes.{processes}
 use Rattle.plain.specs.State.{State}
-use Rattle.kernel.specs.declared.Verdict.{Verdict}
+use Rattle.verdicts.specs.declared.Verdict.{Verdict}
 
 -- into a table of so many rows
 abbrev pub refusals : ℕ → State → List Refusal

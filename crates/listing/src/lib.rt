@@ -5,8 +5,8 @@ ghost use Rattle.listing.specs.Allowed.{refusals, allowed};
 ghost use Rattle.listing.specs.Listed.{Lists};
 use kernel::Answer;
 use kernel::Kernel;
-use kernel::Verdict;
 use rows::Row;
+use verdicts::Verdict;
 
 const PROCESSES: u32 = sizes::PROCESSES as u32;
 
@@ -14,19 +14,7 @@ const PROCESSES: u32 = sizes::PROCESSES as u32;
 fn judge(k: Kernel, rows: usize) -> Verdict
     ensures { λ r. ⌜ Judged (refusals rows) k r ⌝ }
 {
-    if !k.is_sound() {
-        return Verdict {
-            code: 14,
-            number: 0,
-        };
-    }
-    if rows < PROCESSES as usize {
-        return Verdict {
-            code: 9,
-            number: PROCESSES,
-        };
-    }
-    Verdict { code: 0, number: 0 }
+    verdicts::on_listing(k.is_sound(), rows)
 }
 
 // How many rows are written: none where the listing is refused.

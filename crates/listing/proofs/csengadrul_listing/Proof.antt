@@ -51,13 +51,13 @@ use denote.Exit.{yes}
 use Rattle.kernel.specs.Judged.{Judged, refusedWith}
 use Rattle.kernel.specs.declared.Answer.{Answer}
 use Rattle.kernel.specs.declared.Kernel.{Kernel}
-use Rattle.kernel.specs.declared.Verdict.{Verdict}
+use Rattle.verdicts.specs.declared.Verdict.{Verdict}
 use Rattle.kernel.proofs.Answer as R
 use Rattle.kernel.proofs.Answer.Laws as R′
 use Rattle.kernel.proofs.Kernel as K
 use Rattle.kernel.proofs.Kernel.Laws as K′
-use Rattle.kernel.proofs.Verdict as D
-use Rattle.kernel.proofs.Verdict.Laws as D′
+use Rattle.verdicts.proofs.Verdict as D
+use Rattle.verdicts.proofs.Verdict.Laws as D′
 use Rattle.image.specs.Image.{Read}
 use Rattle.image.proofs.Types.{sized}
 use Rattle.image.proofs.read as read

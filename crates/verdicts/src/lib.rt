@@ -1,0 +1,158 @@
+// The verdict on each call: which of its refusals comes first, from what the kernel reads off its state. Every function answers for all numbers.
+ghost use mathlib.Core.Bool.{not, _||_};
+ghost use mathlib.Core.List.{[], _∷_};
+ghost use mathlib.Core.Path.{_≡_};
+ghost use lib.Dec.{eqb, leb, ltb};
+ghost use Rattle.plain.specs.Calls.{on, noClass, noMailbox, noSemaphore};
+ghost use Rattle.plain.specs.Listing.{fewRows};
+ghost use Rattle.plain.specs.Sizes.{processes, buffers, longest, highestCount, storeSize};
+ghost use Rattle.verdicts.specs.Chain.{orElse, found};
+
+const PROCESSES: u32 = sizes::PROCESSES as u32;
+
+const CLASSES: u32 = sizes::CLASSES as u32;
+
+const MAILBOXES: u32 = sizes::MAILBOXES as u32;
+
+const BUFFERS: u32 = sizes::BUFFERS as u32;
+
+const SEMAPHORES: u32 = sizes::SEMAPHORES as u32;
+
+const HIGHEST_COUNT: u32 = sizes::HIGHEST_COUNT as u32;
+
+// What judging a call finds: a refusal, or code 0.
+pub struct Verdict {
+    pub code: u32,
+    pub number: u32,
+}
+
+// What the kernel reads off its state before it judges a call.
+pub struct Facts {
+    pub sound: bool,
+    pub runner: u32,
+    pub hand: bool,
+    pub length: u32,
+    pub unused: u32,
+    pub free: u32,
+}
+
+impl Verdict {
+    // This verdict if it refuses, else a refusal with a code and a number where that holds.
+    fn or_with(self, holds: bool, code: u32, number: u32) -> Verdict
+        ensures { λ r. ⌜ r ≡ orElse self (record { code = code; number = number; holds = holds }) ⌝ }
+    {
+        if self.code != 0 {
+            return self;
+        }
+        if holds {
+            return Verdict { code, number };
+        }
+        self
+    }
+
+    fn or(self, holds: bool, code: u32) -> Verdict
+        ensures { λ r. ⌜ r ≡ orElse self (on code holds) ⌝ }
+    {
+        self.or_with(holds, code, 0)
+    }
+}
+
+fn either(a: bool, b: bool) -> bool
+    ensures { λ r. ⌜ r ≡ (a || b) ⌝ }
+{
+    if a {
+        return true;
+    }
+    b
+}
+
+// A state that is not sound comes before every other refusal.
+pub fn on_tick(f: Facts) -> Verdict
+    ensures { λ r. ⌜ r ≡ found (on 14 (not (f .sound)) ∷ []) ⌝ }
+{
+    let v = Verdict { code: 0, number: 0 };
+    v.or(!f.sound, 14)
+}
+
+// Calls that are refused only while 0 runs.
+pub fn on_idle(f: Facts) -> Verdict
+    ensures { λ r. ⌜ r ≡ found (on 14 (not (f .sound)) ∷ on 5 (eqb (f .runner) 0) ∷ []) ⌝ }
+{
+    on_tick(f).or(f.runner == 0, 5)
+}
+
+pub fn on_create(f: Facts, class: u32) -> Verdict
+    ensures { λ r. ⌜ r ≡ found (on 14 (not (f .sound)) ∷ noClass class ∷ on 10 (eqb (f .unused) processes) ∷ []) ⌝ }
+{
+    on_tick(f)
+        .or(CLASSES <= class, 2)
+        .or(f.unused == PROCESSES, 10)
+}
+
+pub fn on_stop(f: Facts, p: u32, unused: bool) -> Verdict
+    ensures { λ r. ⌜ r ≡ found (on 14 (not (f .sound)) ∷ on 1 (eqb p 0 || (leb processes p || unused)) ∷ []) ⌝ }
+{
+    on_tick(f).or(either(p == 0, either(PROCESSES <= p, unused)), 1)
+}
+
+pub fn on_class(f: Facts, class: u32) -> Verdict
+    ensures { λ r. ⌜ r ≡ found (on 14 (not (f .sound)) ∷ on 5 (eqb (f .runner) 0) ∷ noClass class ∷ []) ⌝ }
+{
+    on_idle(f).or(CLASSES <= class, 2)
+}
+
+pub fn on_send(f: Facts, held: usize, m: u32, n: usize, full: bool) -> Verdict
+    ensures { λ r. ⌜ r ≡ found (on 14 (not (f .sound)) ∷ on 15 (not (eqb held storeSize)) ∷ noMailbox m ∷ on 6 (ltb longest n) ∷ on 11 full ∷ on 12 (eqb (f .free) buffers) ∷ []) ⌝ }
+{
+    on_tick(f)
+        .or(held != sizes::STORE_SIZE, 15)
+        .or(MAILBOXES <= m, 3)
+        .or(sizes::LONGEST < n, 6)
+        .or(full, 11)
+        .or(f.free == BUFFERS, 12)
+}
+
+pub fn on_receive(f: Facts, m: u32) -> Verdict
+    ensures { λ r. ⌜ r ≡ found (on 14 (not (f .sound)) ∷ on 5 (eqb (f .runner) 0) ∷ noMailbox m ∷ on 7 (f .hand) ∷ []) ⌝ }
+{
+    on_idle(f).or(MAILBOXES <= m, 3).or(f.hand, 7)
+}
+
+pub fn on_release(f: Facts) -> Verdict
+    ensures { λ r. ⌜ r ≡ found (on 14 (not (f .sound)) ∷ on 5 (eqb (f .runner) 0) ∷ on 8 (not (f .hand)) ∷ []) ⌝ }
+{
+    on_idle(f).or(!f.hand, 8)
+}
+
+pub fn on_read(f: Facts, held: usize, room: usize) -> Verdict
+    ensures { λ r. ⌜ r ≡ found (on 14 (not (f .sound)) ∷ on 15 (not (eqb held storeSize)) ∷ on 5 (eqb (f .runner) 0) ∷ on 8 (not (f .hand)) ∷ record { code = 9; number = f .length; holds = ltb room (f .length) } ∷ []) ⌝ }
+{
+    on_tick(f)
+        .or(held != sizes::STORE_SIZE, 15)
+        .or(f.runner == 0, 5)
+        .or(!f.hand, 8)
+        .or_with(room < f.length as usize, 9, f.length)
+}
+
+pub fn on_signal(f: Facts, i: u32, count: u32) -> Verdict
+    ensures { λ r. ⌜ r ≡ found (on 14 (not (f .sound)) ∷ noSemaphore i ∷ on 13 (eqb count highestCount) ∷ []) ⌝ }
+{
+    on_tick(f)
+        .or(SEMAPHORES <= i, 4)
+        .or(count == HIGHEST_COUNT, 13)
+}
+
+pub fn on_wait(f: Facts, i: u32) -> Verdict
+    ensures { λ r. ⌜ r ≡ found (on 14 (not (f .sound)) ∷ on 5 (eqb (f .runner) 0) ∷ noSemaphore i ∷ []) ⌝ }
+{
+    on_idle(f).or(SEMAPHORES <= i, 4)
+}
+
+// A table of rows must have one for each process.
+pub fn on_listing(sound: bool, rows: usize) -> Verdict
+    ensures { λ r. ⌜ r ≡ found (on 14 (not sound) ∷ fewRows rows ∷ []) ⌝ }
+{
+    let v = Verdict { code: 0, number: 0 };
+    v.or(!sound, 14)
+        .or_with(rows < sizes::PROCESSES, 9, PROCESSES)
+}
