@@ -5,6 +5,9 @@ mod text;
 ghost use Rattle.answers.specs.Answer.{answer, bad, line, readLine};
 ghost use Rattle.answers.specs.Written.{Written};
 
+// What a line takes beside hex pairs: three numbers of ten digits, three spaces and a dash.
+pub const TEXT_ROOM: usize = 34;
+
 // put_bad, put_line and put_read_line write at the start of out and give the length written. Where out is too short they write nothing and give 0.
 
 pub fn put_bad(out: &mut [u8]) -> usize

@@ -1,4 +1,5 @@
 // A short text, made from its end: it is the bytes from `at` on. Assumes that there is room in front, as each `requires` says.
+use crate::TEXT_ROOM;
 ghost use mathlib.Core.Path.{_≡_};
 ghost use mathlib.Core.List.{[], _∷_, _++_};
 ghost use Prim.Native.Nat.{_+_, _%_, _≤_, _<_};
@@ -6,19 +7,19 @@ ghost use Rattle.answers.specs.Ascii.{space};
 ghost use Rattle.answers.specs.Answer.{answer, decimal, digit, line};
 ghost use Rattle.answers.specs.Promises.{textRoom, shown, beforePairs};
 
-// Three numbers of ten digits, three spaces and a dash.
-const ROOM: usize = 34;
-
 pub(crate) struct Text {
-    pub bytes: [u8; ROOM],
+    pub bytes: [u8; TEXT_ROOM],
     pub at: usize,
 }
 
 pub(crate) fn nothing() -> Text
     ensures { λ r. ⌜ (shown r ≡ []) × (r .at ≡ textRoom) ⌝ }
 {
-    let bytes = [0; ROOM];
-    Text { bytes, at: ROOM }
+    let bytes = [0; TEXT_ROOM];
+    Text {
+        bytes,
+        at: TEXT_ROOM,
+    }
 }
 
 fn front(t: Text, b: u8) -> Text

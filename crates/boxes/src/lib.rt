@@ -6,6 +6,7 @@ ghost use Prim.Native.Nat.{ℕ};
 ghost use Rattle.rings.specs.Walk.{tables};
 ghost use Rattle.rings.specs.Moves.{MadeFresh, JoinedRear, HasLeft, IsFirst, SaysEmpty, SaysAtLeast};
 ghost use Rattle.boxes.specs.Box.{buffers, mailboxes, num, tablesOf};
+use sizes::Bid;
 
 const BUFFERS: u8 = sizes::BUFFERS as u8;
 
@@ -13,10 +14,7 @@ const MAILBOXES: u32 = sizes::MAILBOXES as u32;
 
 const NODES: usize = sizes::BUFFERS + sizes::MAILBOXES;
 
-// A node of a ring: a buffer, or the head of mailbox m, at BUFFERS + m.
-pub struct Bid(pub u8);
-
-// The node after each node, and the node before it. A buffer in no mailbox is linked to itself.
+// The node after each node, and the node before it: a node is a buffer, or the head of mailbox m, at BUFFERS + m. A buffer in no mailbox is linked to itself.
 pub struct Boxes {
     pub next: [Bid; NODES],
     pub prev: [Bid; NODES],
@@ -37,13 +35,13 @@ pub fn bytes_of(links: [Bid; NODES]) -> [u8; NODES]
 }
 
 // The first buffer of mailbox m by the links on; where it is empty, a number that is no buffer.
-fn first_by(next: &[u8; NODES], m: u32) -> u8
-    ensures { λ r. ⌜ ((prev : List ℕ) → IsFirst buffers mailboxes (tables (now (next .entry)) prev) m r) ⌝ }
+fn first_by(next: &[u8; NODES], m: u32) -> Bid
+    ensures { λ r. ⌜ ((prev : List ℕ) → IsFirst buffers mailboxes (tables (now (next .entry)) prev) m (r .0)) ⌝ }
 {
     if m < MAILBOXES {
-        next[BUFFERS as usize + m as usize]
+        Bid(next[BUFFERS as usize + m as usize])
     } else {
-        BUFFERS
+        Bid(BUFFERS)
     }
 }
 
@@ -54,7 +52,8 @@ pub fn at_least(next: &[u8; NODES], m: u32, n: u32) -> bool
     if (BUFFERS as u32) < n {
         return false;
     }
-    let mut b = first_by(next, m);
+    let first = first_by(next, m);
+    let mut b = first.0;
     let mut left = n;
     while 0 < left {
         if BUFFERS <= b {

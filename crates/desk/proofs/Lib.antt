@@ -1,4 +1,3 @@
-pub mod Asked
 pub mod Turns
 pub mod Texts
 pub mod Theorems

@@ -1,4 +1,4 @@
 pub mod Reply
 pub mod Line
-pub mod Asked
+pub mod Told
 pub mod Theorems

@@ -1,33 +1,20 @@
 -- "The replay desk": what the plain kernel's desk writes for the lines of a script, and where it then stands.
 -- Assumes nothing.
 use Prim.Native.Nat.{ℕ}
-use mathlib.Core.Bool.{Bool, true, false, _&&_}
+use mathlib.Core.Bool.{_&&_}
 use mathlib.Core.List.{List, [], _∷_}
 use mathlib.Core.Option.{Option, none, some}
 use lib.Dec.{eqb}
 use Rattle.lists.specs.Lists.{if_then_else_}
-use Rattle.plain.specs.Calls.{Call, create, stop, end, yield, class, tick, send, receive, read, release, signal, wait, Answer, Outcome, step}
+use Rattle.plain.specs.Calls.{Call, Answer, Outcome, step}
 use Rattle.plain.specs.State.{State}
 use Rattle.answers.specs.Answer.{line, readLine, bad}
 use Rattle.script.specs.Grammar as Grammar
-
-abbrev pub isRead : Call → Bool
-isRead (create c) = false
-isRead (stop p) = false
-isRead end = false
-isRead yield = false
-isRead (class c) = false
-isRead tick = false
-isRead (send m b) = false
-isRead (receive m) = false
-isRead (read n) = true
-isRead release = false
-isRead (signal k) = false
-isRead (wait k) = false
+use Rattle.promise.specs.Lent.{lends, isRoom}
 
 -- "code, number, running .. A successful read adds a space and the message in lowercase hex."
 abbrev pub textOf : Call → Answer → List ℕ → List ℕ
-textOf c a message = if isRead c && eqb (a .code) 0 then readLine a message else line a
+textOf c a message = if isRoom (lends c) && eqb (a .code) 0 then readLine a message else line a
 
 -- the line that is written, and the state after it
 pub record Reply : Type 0 where

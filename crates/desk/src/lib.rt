@@ -5,14 +5,21 @@ ghost use Prim.Native.Nat.{_≤_};
 ghost use lib.ListN.{take};
 ghost use Rattle.plain.specs.Calls as Plain;
 ghost use Rattle.script.specs.Grammar.{mostBytes, largestRoom};
-ghost use Rattle.desk.specs.Asked.{Calls, Told};
+ghost use Rattle.script.specs.Request.{called};
+ghost use Rattle.kernel.specs.Promise.{Plainly};
 ghost use Rattle.desk.specs.Line.{Turned, Line};
+ghost use Rattle.desk.specs.Told.{Told};
 use kernel::Done;
 use kernel::Kernel;
 use script::Request;
 use script::calls;
+use script::calls::Quiet;
+use script::calls::Word;
 
 const LARGEST_ROOM: usize = calls::LARGEST_ROOM as usize;
+
+// An area of so many bytes takes every answer.
+pub const LONGEST_TEXT: usize = answers::TEXT_ROOM + 2 * LARGEST_ROOM;
 
 // The next state, and how many bytes of the lent area the answer takes.
 pub struct Turn {
@@ -21,20 +28,20 @@ pub struct Turn {
 }
 
 // The calls that are lent nothing.
-fn called(k: Kernel, word: u32, number: u32) -> Done
-    ensures { λ r. ⌜ Calls word number k r ⌝ }
+fn called(k: Kernel, call: Quiet) -> Done
+    ensures { λ r. ⌜ Plainly (called call) k r ⌝ }
 {
-    match word {
-        calls::CREATE => k.create(number),
-        calls::STOP => k.stop(number),
-        calls::END => k.end(),
-        calls::YIELD => k.yield_now(),
-        calls::CLASS => k.class(number),
-        calls::TICK => k.tick(),
-        calls::RECEIVE => k.receive(number),
-        calls::RELEASE => k.release(),
-        calls::SIGNAL => k.signal(number),
-        _ => k.wait(number),
+    match call {
+        Quiet::Create(n) => k.create(n),
+        Quiet::Stop(n) => k.stop(n),
+        Quiet::End => k.end(),
+        Quiet::Yield => k.yield_now(),
+        Quiet::Class(n) => k.class(n),
+        Quiet::Tick => k.tick(),
+        Quiet::Receive(n) => k.receive(n),
+        Quiet::Release => k.release(),
+        Quiet::Signal(n) => k.signal(n),
+        Quiet::Wait(n) => k.wait(n),
     }
 }
 
@@ -47,13 +54,13 @@ fn tell(d: Done, out: &mut [u8]) -> Turn
     Turn { state, length }
 }
 
-fn send(k: Kernel, store: &mut [u8], q: Request, out: &mut [u8]) -> Turn
+fn send(k: Kernel, store: &mut [u8], m: u32, q: Request, out: &mut [u8]) -> Turn
     requires { ⌜ q .length ≤ mostBytes ⌝ }
-    ensures { λ r. ⌜ Turned (some (Plain.send (q .number) (take (q .length) (q .bytes)))) (now (store .entry)) (now (out .entry)) k (now (store .exit)) (now (out .exit)) r ⌝ }
+    ensures { λ r. ⌜ Turned (some (Plain.send m (take (q .length) (q .bytes)))) (now (store .entry)) (now (out .entry)) k (now (store .exit)) (now (out .exit)) r ⌝ }
 {
     let bytes = q.bytes;
     let n = q.length as usize;
-    let d = k.send(store, q.number, &bytes[..n]);
+    let d = k.send(store, m, &bytes[..n]);
     tell(d, out)
 }
 
@@ -80,16 +87,17 @@ pub fn line(k: Kernel, store: &mut [u8], line: &[u8], out: &mut [u8]) -> Turn
     ensures { λ r. ⌜ Line (now (store .entry)) (now (line .entry)) (now (out .entry)) k (now (store .exit)) (now (out .exit)) r ⌝ }
 {
     let q = script::request(line);
-    if q.word == calls::BAD {
-        let length = answers::put_bad(out);
-        return Turn { state: k, length };
+    let word = q.word;
+    match word {
+        Word::Bad => {
+            let length = answers::put_bad(out);
+            Turn { state: k, length }
+        }
+        Word::Call(call) => {
+            let d = called(k, call);
+            tell(d, out)
+        }
+        Word::Send(m) => send(k, store, m, q, out),
+        Word::Read(n) => read(k, store, n, out),
     }
-    if q.word == calls::SEND {
-        return send(k, store, q, out);
-    }
-    if q.word == calls::READ {
-        return read(k, store, q.number, out);
-    }
-    let d = called(k, q.word, q.number);
-    tell(d, out)
 }

@@ -1,14 +1,15 @@
 -- The encodings of the structs, from those of their fields.
 -- Assumes nothing.
 use mathlib.Core.Path.{refl}
-use Rattle.queues.specs.declared.Pid.{Pid}
+use Rattle.sizes.specs.declared.Pid.{Pid}
 use Rattle.queues.specs.declared.Queues.{Queues}
-use Rattle.boxes.specs.declared.Bid.{Bid}
+use Rattle.sizes.specs.declared.Bid.{Bid}
 use Rattle.boxes.specs.declared.Boxes.{Boxes}
 use Rattle.procs.specs.declared.Procs.{Procs}
 use Rattle.mail.specs.declared.Mail.{Mail}
 use Rattle.kernel.specs.declared.Kernel.{Kernel}
-use Rattle.image.specs.Image.{size, pid, bid, queues, procs, boxes, mail, image, U8, U16, U32, Array, Sized}
+use Rattle.plain.specs.Sizes.{processes, buffers, semaphores}
+use Rattle.image.specs.Image.{nodes, boxNodes, queuesLong, procsLong, boxesLong, mailLong, size, pid, bid, queues, procs, boxes, mail, image, U8, U16, U32, Array, Sized}
 use Rattle.image.proofs.Codes.{Code, both, through, array, byte-code, le-code}
 
 abbrev FitsPid : Pid → Type 0
@@ -18,19 +19,19 @@ abbrev FitsBid : Bid → Type 0
 FitsBid b = U8 (b .0)
 
 abbrev FitsQueues : Queues → Type 0
-FitsQueues q = Array 69 FitsPid (q .next) × Array 69 FitsPid (q .prev)
+FitsQueues q = Array nodes FitsPid (q .next) × Array nodes FitsPid (q .prev)
 
 abbrev FitsProcs : Procs → Type 0
-FitsProcs p = (((FitsPid (p .running) × Array 32 U8 (p .class)) × Array 32 U8 (p .ticks)) × FitsQueues (p .queues)) × U32 (p .ready)
+FitsProcs p = ((((FitsPid (p .running) × Array processes U8 (p .class)) × Array processes U8 (p .ticks)) × FitsQueues (p .queues)) × U32 (p .ready)) × U32 (p .unused)
 
 abbrev FitsBoxes : Boxes → Type 0
-FitsBoxes b = Array 48 FitsBid (b .next) × Array 48 FitsBid (b .prev)
+FitsBoxes b = Array boxNodes FitsBid (b .next) × Array boxNodes FitsBid (b .prev)
 
 abbrev FitsMail : Mail → Type 0
-FitsMail m = (((FitsBoxes (m .boxes) × Array 32 FitsBid (m .hand)) × U32 (m .full)) × Array 32 U16 (m .length)) × U32 (m .free)
+FitsMail m = (((FitsBoxes (m .boxes) × Array processes FitsBid (m .hand)) × U32 (m .full)) × Array buffers U16 (m .length)) × U32 (m .free)
 
 abbrev FitsKernel : Kernel → Type 0
-FitsKernel k = ((FitsProcs (k .procs) × U32 (k .unused)) × FitsMail (k .mail)) × Array 16 U16 (k .count)
+FitsKernel k = (FitsProcs (k .procs) × FitsMail (k .mail)) × Array semaphores U16 (k .count)
 
 pid-code : Code pid 1 FitsPid
 pid-code = through (λ (p : Pid). p .0) (λ n. record { 0 = n }) (λ n. refl) (λ p. refl) byte-code
@@ -38,36 +39,36 @@ pid-code = through (λ (p : Pid). p .0) (λ n. record { 0 = n }) (λ n. refl) (�
 bid-code : Code bid 1 FitsBid
 bid-code = through (λ (b : Bid). b .0) (λ n. record { 0 = n }) (λ n. refl) (λ b. refl) byte-code
 
-queues-code : Code queues 138 FitsQueues
-queues-code = through (λ (q : Queues). (q .next, q .prev)) (λ t. record { next = t .0; prev = t .1 }) (λ t. refl) (λ q. refl) (both (array pid-code 69) (array pid-code 69))
+queues-code : Code queues queuesLong FitsQueues
+queues-code = through (λ (q : Queues). (q .next, q .prev)) (λ t. record { next = t .0; prev = t .1 }) (λ t. refl) (λ q. refl) (both (array pid-code nodes) (array pid-code nodes))
 
-boxes-code : Code boxes 96 FitsBoxes
-boxes-code = through (λ (b : Boxes). (b .next, b .prev)) (λ t. record { next = t .0; prev = t .1 }) (λ t. refl) (λ q. refl) (both (array bid-code 48) (array bid-code 48))
+boxes-code : Code boxes boxesLong FitsBoxes
+boxes-code = through (λ (b : Boxes). (b .next, b .prev)) (λ t. record { next = t .0; prev = t .1 }) (λ t. refl) (λ q. refl) (both (array bid-code boxNodes) (array bid-code boxNodes))
 
-procs-code : Code procs 207 FitsProcs
+procs-code : Code procs procsLong FitsProcs
 procs-code =
-    through (λ (p : Procs). ((((p .running, p .class), p .ticks), p .queues), p .ready))
-    (λ t. record { running = t .0 .0 .0 .0; class = t .0 .0 .0 .1; ticks = t .0 .0 .1; queues = t .0 .1; ready = t .1 }) (λ t. refl) (λ p. refl)
-    (both (both (both (both pid-code (array byte-code 32)) (array byte-code 32)) queues-code) (le-code 4))
+    through (λ (p : Procs). (((((p .running, p .class), p .ticks), p .queues), p .ready), p .unused))
+    (λ t. record { running = t .0 .0 .0 .0 .0; class = t .0 .0 .0 .0 .1; ticks = t .0 .0 .0 .1; queues = t .0 .0 .1; ready = t .0 .1; unused = t .1 }) (λ t. refl) (λ p. refl)
+    (both (both (both (both (both pid-code (array byte-code processes)) (array byte-code processes)) queues-code) (le-code 4)) (le-code 4))
 
-mail-code : Code mail 200 FitsMail
+mail-code : Code mail mailLong FitsMail
 mail-code =
     through (λ (m : Mail). ((((m .boxes, m .hand), m .full), m .length), m .free))
     (λ t. record { boxes = t .0 .0 .0 .0; hand = t .0 .0 .0 .1; full = t .0 .0 .1; length = t .0 .1; free = t .1 }) (λ t. refl) (λ m. refl)
-    (both (both (both (both boxes-code (array bid-code 32)) (le-code 4)) (array (le-code 2) 32)) (le-code 4))
+    (both (both (both (both boxes-code (array bid-code processes)) (le-code 4)) (array (le-code 2) buffers)) (le-code 4))
 
 kernel-code : Code image size FitsKernel
 unfolding image
 kernel-code =
-    through (λ (k : Kernel). (((k .procs, k .unused), k .mail), k .count))
-    (λ t. record { procs = t .0 .0 .0; unused = t .0 .0 .1; mail = t .0 .1; count = t .1 }) (λ t. refl) (λ k. refl)
-    (both (both (both procs-code (le-code 4)) mail-code) (array (le-code 2) 16))
+    through (λ (k : Kernel). ((k .procs, k .mail), k .count))
+    (λ t. record { procs = t .0 .0; mail = t .0 .1; count = t .1 }) (λ t. refl) (λ k. refl)
+    (both (both procs-code mail-code) (array (le-code 2) semaphores))
 
 fits : (k : Kernel) → Sized k → FitsKernel k
 fits k s =
-    let procs : FitsProcs (k .procs) = ((((s .running, s .class), s .ticks), (s .next, s .prev)), s .ready) in
+    let procs : FitsProcs (k .procs) = (((((s .running, s .class), s .ticks), (s .next, s .prev)), s .ready), s .unused) in
     let mail : FitsMail (k .mail) = (((((s .box-next, s .box-prev), s .hand), s .full), s .lengths), s .free) in
-    (((procs, s .unused), mail), s .count)
+    ((procs, mail), s .count)
 
 pub image-code : Code image size Sized
 image-code = record {
@@ -79,16 +80,16 @@ image-code = record {
   where
     sized-of : (k : Kernel) → FitsKernel k → Sized k
     sized-of k f =
-        let procs = f .0 .0 .0 in
+        let procs = f .0 .0 in
         let mail = f .0 .1 in
         record {
-          running = procs .0 .0 .0 .0;
-          class = procs .0 .0 .0 .1;
-          ticks = procs .0 .0 .1;
-          next = procs .0 .1 .0;
-          prev = procs .0 .1 .1;
-          ready = procs .1;
-          unused = f .0 .0 .1;
+          running = procs .0 .0 .0 .0 .0;
+          class = procs .0 .0 .0 .0 .1;
+          ticks = procs .0 .0 .0 .1;
+          next = procs .0 .0 .1 .0;
+          prev = procs .0 .0 .1 .1;
+          ready = procs .0 .1;
+          unused = procs .1;
           box-next = mail .0 .0 .0 .0 .0;
           box-prev = mail .0 .0 .0 .0 .1;
           hand = mail .0 .0 .0 .1;

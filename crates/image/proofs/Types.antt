@@ -11,11 +11,12 @@ use denote.Laws.{Is}
 use denote.Array.{each}
 use denote.Struct.Field.{Field, u8-field, u16-field, array-field}
 use denote.Struct.Declared.{row, field}
-use Rattle.queues.proofs.Pid as Pid
-use Rattle.boxes.proofs.Bid as Bid
+use Rattle.sizes.proofs.Pid as Pid
+use Rattle.sizes.proofs.Bid as Bid
 use Rattle.kernel.proofs.Kernel as Kernel
 use Rattle.kernel.specs.declared.Kernel.{Kernel}
-use Rattle.image.specs.Image.{U8, U16, Array, Sized}
+use Rattle.plain.specs.Sizes.{processes, buffers, semaphores}
+use Rattle.image.specs.Image.{nodes, boxNodes, U8, U16, Array, Sized}
 
 module _ (F : Field) (P : F .Value → Type 0) (fit : (x : F .Value) (vs : List Val) → Is (F .row) (F .into x) vs → P x) where
   entries : (l : List (F .Value)) (us : List Val) → shadow (each (F .row .Denot) (F .row .own) (map (F .into) l) us) → (x : F .Value) → List·Memᴰ x l → P x
@@ -31,7 +32,7 @@ sized k vs p =
     let fields = p .1 .1 in
     let procs = fields .0 .1 .1 in
     let queues = procs .1 .1 .1 .0 .1 .1 in
-    let mail = fields .1 .1 .0 .1 .1 in
+    let mail = fields .1 .0 .1 .1 in
     let boxes = mail .0 .1 .1 in
     let bytes = array u8-field U8 (λ x vs q. q .1) in
     let pids = array (field Pid.the-type) (λ p. U8 (p .0)) (λ x vs q. q .1 .1 .0 .1) in
@@ -39,17 +40,17 @@ sized k vs p =
     let pairs = array u16-field U16 (λ x vs q. q .1) in
     record {
       running = procs .0 .1 .1 .0 .1;
-      class = bytes 32 (k .procs .class) _ (procs .1 .0);
-      ticks = bytes 32 (k .procs .ticks) _ (procs .1 .1 .0);
-      next = pids 69 (k .procs .queues .next) _ (queues .0);
-      prev = pids 69 (k .procs .queues .prev) _ (queues .1 .0);
+      class = bytes processes (k .procs .class) _ (procs .1 .0);
+      ticks = bytes processes (k .procs .ticks) _ (procs .1 .1 .0);
+      next = pids nodes (k .procs .queues .next) _ (queues .0);
+      prev = pids nodes (k .procs .queues .prev) _ (queues .1 .0);
       ready = procs .1 .1 .1 .1 .0 .1;
-      unused = fields .1 .0 .1;
-      box-next = bids 48 (k .mail .boxes .next) _ (boxes .0);
-      box-prev = bids 48 (k .mail .boxes .prev) _ (boxes .1 .0);
-      hand = bids 32 (k .mail .hand) _ (mail .1 .0);
+      unused = procs .1 .1 .1 .1 .1 .0 .1;
+      box-next = bids boxNodes (k .mail .boxes .next) _ (boxes .0);
+      box-prev = bids boxNodes (k .mail .boxes .prev) _ (boxes .1 .0);
+      hand = bids processes (k .mail .hand) _ (mail .1 .0);
       full = mail .1 .1 .0 .1;
-      lengths = pairs 32 (k .mail .length) _ (mail .1 .1 .1 .0);
+      lengths = pairs buffers (k .mail .length) _ (mail .1 .1 .1 .0);
       free = mail .1 .1 .1 .1 .0 .1;
-      count = pairs 16 (k .count) _ (fields .1 .1 .1 .0);
+      count = pairs semaphores (k .count) _ (fields .1 .1 .0);
     }

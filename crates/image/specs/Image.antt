@@ -2,19 +2,44 @@
 -- Assumes nothing.
 use mathlib.Core.Path.{_≡_}
 use mathlib.Core.List.{List, _++_, List·Memᴰ}
-use Prim.Native.Nat.{ℕ, _^_, _<_}
+use Prim.Native.Nat.{ℕ, _+_, _*_, _^_, _<_}
 use lib.ListN.{length, replicate}
-use Rattle.queues.specs.declared.Pid.{Pid}
+use Rattle.sizes.specs.declared.Pid.{Pid}
+use Rattle.plain.specs.Sizes as Sizes
+use Rattle.plain.specs.Sizes.{processes, buffers, mailboxes, semaphores}
 use Rattle.queues.specs.declared.Queues.{Queues}
-use Rattle.boxes.specs.declared.Bid.{Bid}
+use Rattle.sizes.specs.declared.Bid.{Bid}
 use Rattle.boxes.specs.declared.Boxes.{Boxes}
 use Rattle.procs.specs.declared.Procs.{Procs}
 use Rattle.mail.specs.declared.Mail.{Mail}
 use Rattle.kernel.specs.declared.Kernel.{Kernel}
 use Rattle.image.specs.Bytes.{byte, le, each}
 
+-- how many bytes each part takes, a byte for a link, four for a word of bits, two for a length or a count
+abbrev pub nodes : ℕ
+nodes = processes + Sizes.queues
+
+abbrev pub queuesLong : ℕ
+queuesLong = nodes + nodes
+
+abbrev pub atQueues : ℕ
+atQueues = 1 + processes + processes
+
+abbrev pub procsLong : ℕ
+procsLong = atQueues + queuesLong + 4 + 4
+
+abbrev pub boxNodes : ℕ
+boxNodes = buffers + mailboxes
+
+abbrev pub boxesLong : ℕ
+boxesLong = boxNodes + boxNodes
+
+abbrev pub mailLong : ℕ
+mailLong = boxesLong + processes + 4 + 2 * buffers + 4
+
+-- 443
 abbrev pub size : ℕ
-size = 443
+size = procsLong + mailLong + 2 * semaphores
 
 abbrev pub pid : Pid → List ℕ
 pid p = byte (p .0)
@@ -26,7 +51,7 @@ abbrev pub queues : Queues → List ℕ
 queues q = each pid (q .next) ++ each pid (q .prev)
 
 abbrev pub procs : Procs → List ℕ
-procs p = pid (p .running) ++ each byte (p .class) ++ each byte (p .ticks) ++ queues (p .queues) ++ le 4 (p .ready)
+procs p = pid (p .running) ++ each byte (p .class) ++ each byte (p .ticks) ++ queues (p .queues) ++ le 4 (p .ready) ++ le 4 (p .unused)
 
 abbrev pub boxes : Boxes → List ℕ
 boxes b = each bid (b .next) ++ each bid (b .prev)
@@ -35,7 +60,7 @@ abbrev pub mail : Mail → List ℕ
 mail m = boxes (m .boxes) ++ each bid (m .hand) ++ le 4 (m .full) ++ each (le 2) (m .length) ++ le 4 (m .free)
 
 unfoldable pub image : Kernel → List ℕ
-image k = procs (k .procs) ++ le 4 (k .unused) ++ mail (k .mail) ++ each (le 2) (k .count)
+image k = procs (k .procs) ++ mail (k .mail) ++ each (le 2) (k .count)
 
 -- a struct's arrays have their lengths, and its numbers fit: so it is with every value of the struct type
 abbrev pub U8 : ℕ → Type 0
@@ -53,39 +78,39 @@ pub record Array {A : Type 0} (n : ℕ) (Fits : A → Type 0) (l : List A) : Typ
 
 pub record Sized (k : Kernel) : Type 0 where
   pub running : U8 (k .procs .running .0)
-  pub class : Array 32 U8 (k .procs .class)
-  pub ticks : Array 32 U8 (k .procs .ticks)
-  pub next : Array 69 (λ p. U8 (p .0)) (k .procs .queues .next)
-  pub prev : Array 69 (λ p. U8 (p .0)) (k .procs .queues .prev)
+  pub class : Array processes U8 (k .procs .class)
+  pub ticks : Array processes U8 (k .procs .ticks)
+  pub next : Array nodes (λ p. U8 (p .0)) (k .procs .queues .next)
+  pub prev : Array nodes (λ p. U8 (p .0)) (k .procs .queues .prev)
   pub ready : U32 (k .procs .ready)
-  pub unused : U32 (k .unused)
-  pub box-next : Array 48 (λ b. U8 (b .0)) (k .mail .boxes .next)
-  pub box-prev : Array 48 (λ b. U8 (b .0)) (k .mail .boxes .prev)
-  pub hand : Array 32 (λ b. U8 (b .0)) (k .mail .hand)
+  pub unused : U32 (k .procs .unused)
+  pub box-next : Array boxNodes (λ b. U8 (b .0)) (k .mail .boxes .next)
+  pub box-prev : Array boxNodes (λ b. U8 (b .0)) (k .mail .boxes .prev)
+  pub hand : Array processes (λ b. U8 (b .0)) (k .mail .hand)
   pub full : U32 (k .mail .full)
-  pub lengths : Array 32 U16 (k .mail .length)
+  pub lengths : Array buffers U16 (k .mail .length)
   pub free : U32 (k .mail .free)
-  pub count : Array 16 U16 (k .count)
+  pub count : Array semaphores U16 (k .count)
 
 -- every field is zero
 abbrev pub blank : Kernel
 blank = record {
   procs = record {
     running = record { 0 = 0 };
-    class = replicate 32 0;
-    ticks = replicate 32 0;
-    queues = record { next = replicate 69 (record { 0 = 0 }); prev = replicate 69 (record { 0 = 0 }) };
+    class = replicate processes 0;
+    ticks = replicate processes 0;
+    queues = record { next = replicate nodes (record { 0 = 0 }); prev = replicate nodes (record { 0 = 0 }) };
     ready = 0;
+    unused = 0;
   };
-  unused = 0;
   mail = record {
-    boxes = record { next = replicate 48 (record { 0 = 0 }); prev = replicate 48 (record { 0 = 0 }) };
-    hand = replicate 32 (record { 0 = 0 });
+    boxes = record { next = replicate boxNodes (record { 0 = 0 }); prev = replicate boxNodes (record { 0 = 0 }) };
+    hand = replicate processes (record { 0 = 0 });
     full = 0;
-    length = replicate 32 0;
+    length = replicate buffers 0;
     free = 0;
   };
-  count = replicate 16 0;
+  count = replicate semaphores 0;
 }
 
 -- what is read of an area: the kernel whose image it is, or zeros where it has another length

@@ -5,14 +5,18 @@ ghost use mathlib.Core.List.{[], _∷_};
 ghost use Prim.Native.Nat.{_*_};
 ghost use lib.ListN.{length};
 ghost use Rattle.image.specs.Bytes.{byte, le, each, Got};
-ghost use Rattle.image.specs.Image.{pid, bid, queues, procs, boxes, mail};
+ghost use Rattle.plain.specs.Sizes.{processes};
+ghost use Rattle.image.specs.Image.{nodes, boxNodes, atQueues, queuesLong, procsLong, boxesLong, mailLong, pid, bid, queues, procs, boxes, mail};
 use crate::layout;
-use boxes::Bid;
+use crate::layout::BOX_NODES;
+use crate::layout::NODES;
 use boxes::Boxes;
 use mail::Mail;
 use procs::Procs;
-use queues::Pid;
 use queues::Queues;
+use sizes::Bid;
+use sizes::PROCESSES;
+use sizes::Pid;
 
 pub fn byte(area: &[u8], at: usize) -> u8
     ensures { λ r. ⌜ Got at 1 (byte r) (now (area .entry)) ⌝ }
@@ -58,60 +62,60 @@ pub fn halfwords(area: &[u8], at: usize, out: &mut [u16])
     }
 }
 
-pub fn bytes(area: &[u8], at: usize) -> [u8; 32]
-    ensures { λ r. ⌜ Got at 32 (each byte r) (now (area .entry)) ⌝ }
+pub fn bytes(area: &[u8], at: usize) -> [u8; PROCESSES]
+    ensures { λ r. ⌜ Got at processes (each byte r) (now (area .entry)) ⌝ }
 {
-    let mut out = [0u8; 32];
-    if !layout::has_room(area.len(), at, 32) {
+    let mut out = [0u8; PROCESSES];
+    if !layout::has_room(area.len(), at, PROCESSES) {
         return out;
     }
     let mut i = 0;
-    while i < 32 {
+    while i < PROCESSES {
         out[i] = area[at + i];
         i += 1;
     }
     out
 }
 
-pub fn links(area: &[u8], at: usize) -> [Pid; 69]
-    ensures { λ r. ⌜ Got at 69 (each pid r) (now (area .entry)) ⌝ }
+pub fn links(area: &[u8], at: usize) -> [Pid; NODES]
+    ensures { λ r. ⌜ Got at nodes (each pid r) (now (area .entry)) ⌝ }
 {
-    let mut out = [Pid(0); 69];
-    if !layout::has_room(area.len(), at, 69) {
+    let mut out = [Pid(0); NODES];
+    if !layout::has_room(area.len(), at, NODES) {
         return out;
     }
     let mut i = 0;
-    while i < 69 {
+    while i < NODES {
         out[i] = Pid(area[at + i]);
         i += 1;
     }
     out
 }
 
-pub fn box_links(area: &[u8], at: usize) -> [Bid; 48]
-    ensures { λ r. ⌜ Got at 48 (each bid r) (now (area .entry)) ⌝ }
+pub fn box_links(area: &[u8], at: usize) -> [Bid; BOX_NODES]
+    ensures { λ r. ⌜ Got at boxNodes (each bid r) (now (area .entry)) ⌝ }
 {
-    let mut out = [Bid(0); 48];
-    if !layout::has_room(area.len(), at, 48) {
+    let mut out = [Bid(0); BOX_NODES];
+    if !layout::has_room(area.len(), at, BOX_NODES) {
         return out;
     }
     let mut i = 0;
-    while i < 48 {
+    while i < BOX_NODES {
         out[i] = Bid(area[at + i]);
         i += 1;
     }
     out
 }
 
-pub fn hands(area: &[u8], at: usize) -> [Bid; 32]
-    ensures { λ r. ⌜ Got at 32 (each bid r) (now (area .entry)) ⌝ }
+pub fn hands(area: &[u8], at: usize) -> [Bid; PROCESSES]
+    ensures { λ r. ⌜ Got at processes (each bid r) (now (area .entry)) ⌝ }
 {
-    let mut out = [Bid(0); 32];
-    if !layout::has_room(area.len(), at, 32) {
+    let mut out = [Bid(0); PROCESSES];
+    if !layout::has_room(area.len(), at, PROCESSES) {
         return out;
     }
     let mut i = 0;
-    while i < 32 {
+    while i < PROCESSES {
         out[i] = Bid(area[at + i]);
         i += 1;
     }
@@ -119,7 +123,7 @@ pub fn hands(area: &[u8], at: usize) -> [Bid; 32]
 }
 
 pub fn queues(area: &[u8]) -> Queues
-    ensures { λ r. ⌜ Got 65 138 (queues r) (now (area .entry)) ⌝ }
+    ensures { λ r. ⌜ Got atQueues queuesLong (queues r) (now (area .entry)) ⌝ }
 {
     let next = links(area, layout::NEXT);
     let prev = links(area, layout::PREV);
@@ -127,24 +131,26 @@ pub fn queues(area: &[u8]) -> Queues
 }
 
 pub fn procs(area: &[u8]) -> Procs
-    ensures { λ r. ⌜ Got 0 207 (procs r) (now (area .entry)) ⌝ }
+    ensures { λ r. ⌜ Got 0 procsLong (procs r) (now (area .entry)) ⌝ }
 {
     let running = Pid(byte(area, layout::RUNNING));
     let class = bytes(area, layout::CLASS);
     let ticks = bytes(area, layout::TICKS);
     let q = queues(area);
     let ready = word(area, layout::READY);
+    let unused = word(area, layout::UNUSED);
     Procs {
         running,
         class,
         ticks,
         queues: q,
         ready,
+        unused,
     }
 }
 
 pub fn boxes(area: &[u8]) -> Boxes
-    ensures { λ r. ⌜ Got 211 96 (boxes r) (now (area .entry)) ⌝ }
+    ensures { λ r. ⌜ Got procsLong boxesLong (boxes r) (now (area .entry)) ⌝ }
 {
     let next = box_links(area, layout::BOX_NEXT);
     let prev = box_links(area, layout::BOX_PREV);
@@ -152,12 +158,12 @@ pub fn boxes(area: &[u8]) -> Boxes
 }
 
 pub fn mail(area: &[u8]) -> Mail
-    ensures { λ r. ⌜ Got 211 200 (mail r) (now (area .entry)) ⌝ }
+    ensures { λ r. ⌜ Got procsLong mailLong (mail r) (now (area .entry)) ⌝ }
 {
     let b = boxes(area);
     let hand = hands(area, layout::HAND);
     let full = word(area, layout::FULL);
-    let mut length = [0u16; 32];
+    let mut length = [0u16; sizes::BUFFERS];
     halfwords(area, layout::LENGTH, &mut length);
     let free = word(area, layout::FREE);
     Mail {

@@ -2,36 +2,46 @@
 ghost use mathlib.Core.Path.{_≡_};
 ghost use Prim.Native.Nat.{_+_};
 ghost use lib.Dec.{leb};
+use sizes::BUFFERS;
+use sizes::MAILBOXES;
+use sizes::PROCESSES;
+use sizes::QUEUES;
+use sizes::SEMAPHORES;
+
+// The nodes of the process queues and of the mailboxes' queues: a link on and a link back for each.
+pub const NODES: usize = PROCESSES + QUEUES;
+
+pub const BOX_NODES: usize = BUFFERS + MAILBOXES;
 
 pub const RUNNING: usize = 0;
 
-pub const CLASS: usize = 1;
+pub const CLASS: usize = RUNNING + 1;
 
-pub const TICKS: usize = 33;
+pub const TICKS: usize = CLASS + PROCESSES;
 
-pub const NEXT: usize = 65;
+pub const NEXT: usize = TICKS + PROCESSES;
 
-pub const PREV: usize = 134;
+pub const PREV: usize = NEXT + NODES;
 
-pub const READY: usize = 203;
+pub const READY: usize = PREV + NODES;
 
-pub const UNUSED: usize = 207;
+pub const UNUSED: usize = READY + 4;
 
-pub const BOX_NEXT: usize = 211;
+pub const BOX_NEXT: usize = UNUSED + 4;
 
-pub const BOX_PREV: usize = 259;
+pub const BOX_PREV: usize = BOX_NEXT + BOX_NODES;
 
-pub const HAND: usize = 307;
+pub const HAND: usize = BOX_PREV + BOX_NODES;
 
-pub const FULL: usize = 339;
+pub const FULL: usize = HAND + PROCESSES;
 
-pub const LENGTH: usize = 343;
+pub const LENGTH: usize = FULL + 4;
 
-pub const FREE: usize = 407;
+pub const FREE: usize = LENGTH + 2 * BUFFERS;
 
-pub const COUNT: usize = 411;
+pub const COUNT: usize = FREE + 4;
 
-pub const SIZE: usize = 443;
+pub const SIZE: usize = COUNT + 2 * SEMAPHORES;
 
 // Whether w bytes from at on lie within n bytes.
 pub fn has_room(n: usize, at: usize, w: usize) -> bool

@@ -2,13 +2,16 @@
 // An area may have any length: one that is not as long as an image is not written, and zeros are read of it.
 ghost use mathlib.Core.Path.{_≡_};
 ghost use Rattle.image.specs.Image.{blank, Read, Written};
-use boxes::Bid;
 use boxes::Boxes;
 use kernel::Kernel;
 use mail::Mail;
 use procs::Procs;
-use queues::Pid;
 use queues::Queues;
+use sizes::BUFFERS;
+use sizes::Bid;
+use sizes::PROCESSES;
+use sizes::Pid;
+use sizes::SEMAPHORES;
 
 mod get;
 mod layout;
@@ -22,16 +25,10 @@ pub fn read(area: &[u8]) -> Kernel
         return blank();
     }
     let procs = get::procs(area);
-    let unused = get::word(area, layout::UNUSED);
     let mail = get::mail(area);
-    let mut count = [0u16; 16];
+    let mut count = [0u16; SEMAPHORES];
     get::halfwords(area, layout::COUNT, &mut count);
-    Kernel {
-        procs,
-        unused,
-        mail,
-        count,
-    }
+    Kernel { procs, mail, count }
 }
 
 // The area becomes the image of k.
@@ -43,7 +40,6 @@ pub fn write(area: &mut [u8], k: Kernel)
     }
     let p = k.procs;
     put::procs(area, p);
-    put::word(area, layout::UNUSED, k.unused);
     let m = k.mail;
     put::mail(area, m);
     let count = k.count;
@@ -54,26 +50,27 @@ pub fn write(area: &mut [u8], k: Kernel)
 fn blank() -> Kernel
     ensures { λ r. ⌜ r ≡ blank ⌝ }
 {
-    let links = [Pid(0); 69];
+    let links = [Pid(0); layout::NODES];
     let queues = Queues {
         next: links,
         prev: links,
     };
-    let row = [0u8; 32];
+    let row = [0u8; PROCESSES];
     let procs = Procs {
         running: Pid(0),
         class: row,
         ticks: row,
         queues,
         ready: 0,
+        unused: 0,
     };
-    let box_links = [Bid(0); 48];
+    let box_links = [Bid(0); layout::BOX_NODES];
     let boxes = Boxes {
         next: box_links,
         prev: box_links,
     };
-    let hand = [Bid(0); 32];
-    let length = [0u16; 32];
+    let hand = [Bid(0); PROCESSES];
+    let length = [0u16; BUFFERS];
     let mail = Mail {
         boxes,
         hand,
@@ -81,11 +78,6 @@ fn blank() -> Kernel
         length,
         free: 0,
     };
-    let count = [0u16; 16];
-    Kernel {
-        procs,
-        unused: 0,
-        mail,
-        count,
-    }
+    let count = [0u16; SEMAPHORES];
+    Kernel { procs, mail, count }
 }

@@ -3,14 +3,18 @@
 ghost use Prim.Native.Nat.{_*_};
 ghost use lib.ListN.{length};
 ghost use Rattle.image.specs.Bytes.{byte, le, each, Put};
-ghost use Rattle.image.specs.Image.{pid, bid, queues, procs, boxes, mail};
+ghost use Rattle.plain.specs.Sizes.{processes};
+ghost use Rattle.image.specs.Image.{nodes, boxNodes, atQueues, queuesLong, procsLong, boxesLong, mailLong, pid, bid, queues, procs, boxes, mail};
 use crate::layout;
-use boxes::Bid;
+use crate::layout::BOX_NODES;
+use crate::layout::NODES;
 use boxes::Boxes;
 use mail::Mail;
 use procs::Procs;
-use queues::Pid;
 use queues::Queues;
+use sizes::Bid;
+use sizes::PROCESSES;
+use sizes::Pid;
 
 pub fn byte(area: &mut [u8], at: usize, x: u8)
     ensures { λ _. ⌜ Put at 1 (byte x) (now (area .entry)) (now (area .exit)) ⌝ }
@@ -47,55 +51,55 @@ pub fn halfwords(area: &mut [u8], at: usize, xs: &[u16])
     }
 }
 
-pub fn bytes(area: &mut [u8], at: usize, xs: [u8; 32])
-    ensures { λ _. ⌜ Put at 32 (each byte xs) (now (area .entry)) (now (area .exit)) ⌝ }
+pub fn bytes(area: &mut [u8], at: usize, xs: [u8; PROCESSES])
+    ensures { λ _. ⌜ Put at processes (each byte xs) (now (area .entry)) (now (area .exit)) ⌝ }
 {
-    if !layout::has_room(area.len(), at, 32) {
+    if !layout::has_room(area.len(), at, PROCESSES) {
         return;
     }
     let mut i = 0;
-    while i < 32 {
+    while i < PROCESSES {
         area[at + i] = xs[i];
         i += 1;
     }
 }
 
-pub fn links(area: &mut [u8], at: usize, xs: [Pid; 69])
-    ensures { λ _. ⌜ Put at 69 (each pid xs) (now (area .entry)) (now (area .exit)) ⌝ }
+pub fn links(area: &mut [u8], at: usize, xs: [Pid; NODES])
+    ensures { λ _. ⌜ Put at nodes (each pid xs) (now (area .entry)) (now (area .exit)) ⌝ }
 {
-    if !layout::has_room(area.len(), at, 69) {
+    if !layout::has_room(area.len(), at, NODES) {
         return;
     }
     let mut i = 0;
-    while i < 69 {
+    while i < NODES {
         let p = xs[i];
         area[at + i] = p.0;
         i += 1;
     }
 }
 
-pub fn box_links(area: &mut [u8], at: usize, xs: [Bid; 48])
-    ensures { λ _. ⌜ Put at 48 (each bid xs) (now (area .entry)) (now (area .exit)) ⌝ }
+pub fn box_links(area: &mut [u8], at: usize, xs: [Bid; BOX_NODES])
+    ensures { λ _. ⌜ Put at boxNodes (each bid xs) (now (area .entry)) (now (area .exit)) ⌝ }
 {
-    if !layout::has_room(area.len(), at, 48) {
+    if !layout::has_room(area.len(), at, BOX_NODES) {
         return;
     }
     let mut i = 0;
-    while i < 48 {
+    while i < BOX_NODES {
         let b = xs[i];
         area[at + i] = b.0;
         i += 1;
     }
 }
 
-pub fn hands(area: &mut [u8], at: usize, xs: [Bid; 32])
-    ensures { λ _. ⌜ Put at 32 (each bid xs) (now (area .entry)) (now (area .exit)) ⌝ }
+pub fn hands(area: &mut [u8], at: usize, xs: [Bid; PROCESSES])
+    ensures { λ _. ⌜ Put at processes (each bid xs) (now (area .entry)) (now (area .exit)) ⌝ }
 {
-    if !layout::has_room(area.len(), at, 32) {
+    if !layout::has_room(area.len(), at, PROCESSES) {
         return;
     }
     let mut i = 0;
-    while i < 32 {
+    while i < PROCESSES {
         let b = xs[i];
         area[at + i] = b.0;
         i += 1;
@@ -103,7 +107,7 @@ pub fn hands(area: &mut [u8], at: usize, xs: [Bid; 32])
 }
 
 pub fn queues(area: &mut [u8], q: Queues)
-    ensures { λ _. ⌜ Put 65 138 (queues q) (now (area .entry)) (now (area .exit)) ⌝ }
+    ensures { λ _. ⌜ Put atQueues queuesLong (queues q) (now (area .entry)) (now (area .exit)) ⌝ }
 {
     let next = q.next;
     links(area, layout::NEXT, next);
@@ -112,7 +116,7 @@ pub fn queues(area: &mut [u8], q: Queues)
 }
 
 pub fn procs(area: &mut [u8], p: Procs)
-    ensures { λ _. ⌜ Put 0 207 (procs p) (now (area .entry)) (now (area .exit)) ⌝ }
+    ensures { λ _. ⌜ Put 0 procsLong (procs p) (now (area .entry)) (now (area .exit)) ⌝ }
 {
     let running = p.running;
     byte(area, layout::RUNNING, running.0);
@@ -123,10 +127,11 @@ pub fn procs(area: &mut [u8], p: Procs)
     let q = p.queues;
     queues(area, q);
     word(area, layout::READY, p.ready);
+    word(area, layout::UNUSED, p.unused);
 }
 
 pub fn boxes(area: &mut [u8], b: Boxes)
-    ensures { λ _. ⌜ Put 211 96 (boxes b) (now (area .entry)) (now (area .exit)) ⌝ }
+    ensures { λ _. ⌜ Put procsLong boxesLong (boxes b) (now (area .entry)) (now (area .exit)) ⌝ }
 {
     let next = b.next;
     box_links(area, layout::BOX_NEXT, next);
@@ -135,7 +140,7 @@ pub fn boxes(area: &mut [u8], b: Boxes)
 }
 
 pub fn mail(area: &mut [u8], m: Mail)
-    ensures { λ _. ⌜ Put 211 200 (mail m) (now (area .entry)) (now (area .exit)) ⌝ }
+    ensures { λ _. ⌜ Put procsLong mailLong (mail m) (now (area .entry)) (now (area .exit)) ⌝ }
 {
     let b = m.boxes;
     boxes(area, b);

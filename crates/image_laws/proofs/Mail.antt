@@ -11,7 +11,7 @@ use Rattle.lists.proofs.Laws.{le?}
 use Rattle.bits.specs.Word.{width, word}
 use Rattle.rings.specs.Ring.{Tables, Rings}
 use Rattle.boxes.specs.Box.{num, tablesOf}
-use Rattle.boxes.specs.declared.Bid.{Bid}
+use Rattle.sizes.specs.declared.Bid.{Bid}
 use Rattle.plain.specs.Sizes.{processes, mailboxes, buffers}
 use Rattle.plain.specs.Sound as Sound
 use Rattle.plain.specs.State.{Message, buffersOf, held}

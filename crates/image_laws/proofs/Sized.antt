@@ -26,7 +26,6 @@ use Rattle.procs.specs.Stands as Stands
 use Rattle.mail.proofs.Held.{not-in-hand}
 use Rattle.mail.specs.Carries.{bufferIn, AsLong, LongInHand}
 use Rattle.mail.specs.Carries as Carries
-use Rattle.seats.specs.Seats.{isUnused}
 use Rattle.kernel.specs.Holds.{Holds}
 use Rattle.kernel.specs.declared.Kernel.{Kernel}
 use Rattle.image.specs.Image.{U8, U16, U32, Array, Sized}
@@ -89,23 +88,23 @@ short {k} {box} {hand} K M b = ⊎-elim
 pub sized : {k : Kernel} {s : State} → Holds k s → Sound s → Sized k
 unfolding Stands.numbers Carries.numbers Queue.tablesOf Box.tablesOf bufferSize longest highestCount slice
 sized {k} {s} H S =
-    let P = H .procs in
+    let P = H .procs .stands in
     let K = H .mail in
     record {
-      running = omega (arith, P .running, runner-range slice (s .procs) (S .seated));
+      running = omega (arith, P .running, runner-range (s .settings .slice) (s .procs) (S .seated));
       class = fitting U8 processes (k .procs .class) (P .classes-long) (λ p h. omega (arith, P .class p, S .seated .in-class p));
-      ticks = fitting U8 processes (k .procs .ticks) (P .ticks-long) (λ p h. omega (arith, P .ticks p, S .seated .ticks-most p));
+      ticks = fitting U8 processes (k .procs .ticks) (P .ticks-long) (λ p h. omega (arith, P .ticks p, S .seated .ticks-most p, S .settings .three-ticks));
       next = nexts-fit Queue.num (k .procs .queues .next) (k .procs .queues .prev) (P .queues) (omega arith);
       prev = prevs-fit Queue.num (k .procs .queues .next) (k .procs .queues .prev) (P .queues) (omega arith);
       ready = bits-fit (Stands.isReady (s .procs .queue)) (P .ready);
-      unused = bits-fit (isUnused (s .procs)) (H .unused);
+      unused = bits-fit (Stands.isUnused (s .procs)) (H .procs .unused);
       box-next = nexts-fit Box.num (k .mail .boxes .next) (k .mail .boxes .prev) (K .boxes) (omega arith);
       box-prev = prevs-fit Box.num (k .mail .boxes .next) (k .mail .boxes .prev) (K .boxes) (omega arith);
       hand = units-fit Box.num {F = U8} (k .mail .hand) (fitting U8 processes (map Box.num (k .mail .hand)) (K .hands-long) (λ p h. omega (arith, K .hands p, in-hand p)));
       full = bits-fit (Carries.isFull (s .hand)) (K .full);
       lengths = fitting U16 buffers (k .mail .length) (K .lengths-long) (λ b h. omega (arith, short K (S .mail) b));
       free = bits-fit (Carries.isFree (s .box) (s .hand)) (K .free);
-      count = fitting U16 semaphores (k .count) (H .counts-long) (λ i h. omega (arith, H .counts i, S .counts i));
+      count = fitting U16 semaphores (k .count) (H .counts .long) (λ i h. omega (arith, H .counts .each i, S .counts .most i));
     }
   where
     in-hand : (p : ℕ) → bufferIn (s .hand p) < buffers

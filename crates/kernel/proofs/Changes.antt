@@ -1,125 +1,129 @@
--- A state of the code with some parts changed holds the plain state with those parts changed.
+-- A state of the code made of changed parts holds the plain state with those parts changed.
 -- Assumes nothing.
-use Prim.Native.Nat.{ℕ, _≤_, _<_}
-use mathlib.Core.Bool.{true, false}
+use Prim.Native.Nat.{ℕ, suc, _-_, _≤_, _<_}
 use mathlib.Core.List.{List, [], _∷_}
 use mathlib.Core.Logic.{_≢_}
 use mathlib.Core.Option.{Option, none, some}
-use mathlib.Core.Path.{_≡_, refl, sym, _∙_}
+use mathlib.Core.Path.{_≡_, refl, sym, ap, _∙_, subst}
 use native.Mathlib.Omega.{arith}
-use lib.ListN.{length, getD, set, length-set}
-use lib.Seq.{getD-set-same, getD-set-other}
-use Rattle.lists.proofs.Laws.{put-cases}
-use Rattle.lists.specs.Lists.{put}
-use Rattle.bits.proofs.Words.{word-put}
-use Rattle.bits.specs.Word.{width, word, bits}
+use lib.Dec.{ltb}
+use lib.ListN.{length}
+use borrow.Author.Tests.{lt-ltb, le-ltb}
+use Rattle.lists.specs.Lists.{someone}
+use Rattle.rings.proofs.Looks.{first-some, first-none}
 use Rattle.plain.specs.Calls as Plain
 use Rattle.plain.specs.Runs.{makeReady, goTo}
-use Rattle.plain.specs.Sizes.{processes, classes, mailboxes, buffers, semaphores, queues, slice, atMailbox}
+use Rattle.plain.specs.Sizes.{processes, classes, mailboxes, buffers, semaphores, highestCount, slice, atMailbox, atSemaphore, queues}
 use Rattle.plain.specs.Sound.{Sound}
 use Rattle.plain.specs.State as State
-use Rattle.plain.specs.State.{Message, State, places, move, line, freeBuffer}
-use Rattle.plain_laws.proofs.Seats.{head-in, member, runner-range, runner-away}
-use Rattle.procs.proofs.Calls.{went-held, created-held, woken-held, halted-held}
+use Rattle.plain.specs.State.{Message, Settings, State, move, line, freeBuffer}
+use Rattle.plain_laws.proofs.Frames.{slice-some}
+use Rattle.plain_laws.proofs.Seats.{head-in, runner-range}
+use Rattle.procs.proofs.Calls.{woken-nobody}
+use Rattle.procs.proofs.Kept.{woken-kept, went-kept, halted-kept}
+use Rattle.procs.proofs.Looks.{first-there, first-nobody}
 use Rattle.procs.specs.Moves as Procs
 use Rattle.procs.specs.Stands as Stands
-use Rattle.mail.proofs.Moves.{queued-carries, handed-carries, taken-carries, let-go-carries}
+use Rattle.procs.specs.declared.Procs as Procs′
+use Rattle.mail.proofs.Moves.{delivered-carries, fetched-carries, let-go-carries}
 use Rattle.mail.specs.Carries as Carries
 use Rattle.mail.specs.Moves as Mail
-use Rattle.seats.specs.Seats.{isUnused}
+use Rattle.mail.specs.declared.Mail as Mail′
+use Rattle.counts.proofs.Laws.{signalled-counted, claimed-counted}
+use Rattle.counts.specs.Counts as Counts
 use Rattle.kernel.specs.Holds.{Holds}
-use Rattle.kernel.specs.Judged.{Becomes}
+use Rattle.kernel.specs.Judged.{Made}
 use Rattle.kernel.specs.declared.Kernel.{Kernel}
 use Rattle.kernel.proofs.Reading.{free-held}
-use Rattle.kernel.proofs.Unused.{SameUsed, same-word, goTo-used, woken-used, created-word, halted-word}
 
-module _ (k r : Kernel) where
-  -- only the processes move, and the same are used
-  pub moved-holds : (next : State.Procs) (s : State) → Holds k s → Stands.Stands (Stands.numbers (r .procs)) next → SameUsed (s .procs) next → r .unused ≡ k .unused → r .mail ≡ k .mail → r .count ≡ k .count → Holds r (move next s)
-  moved-holds next s H st used u m c = record {
-    procs = st;
-    unused = u ∙ (H .unused ∙ sym (same-word (s .procs) next used));
-    mail = rw m (H .mail);
-    counts-long = rw c (H .counts-long);
-    counts = rw c (H .counts);
-  }
+pub made-holds : {r : Kernel} {s : State} {p : Stands.Numbers} {m : Carries.Numbers} {c : List ℕ} → Made r p m c → Stands.Keeps p (s .procs) → Carries.Carries m (s .box) (s .hand) → Counts.Counted c (s .count) → s .settings ≡ State.fresh .settings → Holds r s
+made-holds M P C N e = record { procs = rw (M .procs) P; mail = rw (M .mail) C; counts = rw (M .count) N; settings = e }
 
-  pub created-holds : (p c : ℕ) → Stands.numbers (r .procs) ≡ Procs.created p c (Stands.numbers (k .procs)) → r .unused ≡ word width (put (bits (k .unused)) p false) → r .mail ≡ k .mail → r .count ≡ k .count
-      → Becomes (λ s. (places (s .procs) p ≡ 0) × (1 ≤ p) × (p < processes) × (c < classes)) (Plain.created p c) k r
-  created-holds p c e u m n s H S g = record {
-    procs = rw e (created-held (H .procs) (S .seated) p c (g .2) (g .0) (g .3));
-    unused = u ∙ (word-put width (isUnused (s .procs)) (H .unused) p false ∙ sym (created-word (s .procs) (S .seated) (S .highest) p c (g .0) (g .1) (g .2) (g .3)));
-    mail = rw m (H .mail);
-    counts-long = rw n (H .counts-long);
-    counts = rw n (H .counts);
-  }
+module _ {k : Kernel} {s : State} (H : Holds k s) where
+  -- the slice that the code has built in is that of the state
+  pub slice-is : slice ≡ s .settings .slice
+  slice-is = ap (λ (t : Settings). t .slice) (sym (H .settings))
 
-  pub stopped-holds : (p : ℕ) → Stands.numbers (r .procs) ≡ Procs.halted p (Stands.numbers (k .procs)) → r .unused ≡ word width (put (bits (k .unused)) p true)
-      → Carries.numbers (r .mail) ≡ Mail.letGo (Carries.numbers (k .mail)) p → r .count ≡ k .count → Becomes (λ s. (1 ≤ p) × (p < processes)) (Plain.stopped p) k r
-  stopped-holds p e u m n s H S g = record {
-    procs = rw e (halted-held (H .procs) (S .seated) p (g .1));
-    unused = u ∙ (word-put width (isUnused (s .procs)) (H .unused) p true ∙ sym (halted-word (s .procs) (S .seated) (S .highest) p (g .0)));
-    mail = rw m (let-go-carries (H .mail) (S .mail) p (g .1));
-    counts-long = rw n (H .counts-long);
-    counts = rw n (H .counts);
-  }
-
-  -- w, the first of queue q, is made ready
-  pub woken-holds : (q w : ℕ) (l : List ℕ) → Stands.numbers (r .procs) ≡ Procs.woken q (Stands.numbers (k .procs)) → r .unused ≡ k .unused → r .mail ≡ k .mail → r .count ≡ k .count
-      → Becomes (λ s. (classes ≤ q) × (s .procs .queue q ≡ w ∷ l)) (λ s. move (makeReady w (line q l (s .procs))) s) k r
-  woken-holds q w l e u m n s H S g =
-      moved-holds (makeReady w (line q l (s .procs))) s H (rw e (woken-held (H .procs) (S .seated) q w l (g .1))) (woken-used (s .procs) (S .seated) (S .highest) q w l (g .0) (g .1)) u m n
-
-  -- the caller joins the rear of queue q; choose
-  pub gone-holds : (q : ℕ) → Stands.numbers (r .procs) ≡ Procs.wentTo q (Stands.numbers (k .procs)) → r .unused ≡ k .unused → r .mail ≡ k .mail → r .count ≡ k .count
-      → Becomes (λ s. (classes ≤ q) × (q < queues) × (s .procs .running ≢ 0)) (λ s. move (goTo q (s .procs)) s) k r
-  gone-holds q e u m n s H S g =
-      moved-holds (goTo q (s .procs)) s H (rw e (went-held (H .procs) q (g .1) (runner-range slice (s .procs) (S .seated)) (runner-away slice (s .procs) (S .seated))))
-      (goTo-used (s .procs) (S .seated) (S .highest) q (g .2) (g .0) (g .1)) u m n
-
-  -- semaphore i counts n
-  pub counted-holds : (i n : ℕ) → r ≡ record { procs = k .procs; unused = k .unused; mail = k .mail; count = set (k .count) i n } → Becomes (λ s. i < semaphores) (State.tally i n) k r
-  counted-holds i n e s H S g = rw e (record {
-    procs = H .procs;
-    unused = H .unused;
-    mail = H .mail;
-    counts-long = length-set (k .count) i n ∙ H .counts-long;
-    counts = λ j. put-cases (λ (a : ℕ). getD (set (k .count) i n) j 0 ≡ a) (s .count) i n j
-        (λ d. rw d (getD-set-same (k .count) i n 0 (omega (arith, H .counts-long)))) (λ d. getD-set-other (k .count) i j n 0 d ∙ H .counts j);
-  })
+  -- only the processes move
+  pub moved-holds : {procs : Procs′.Procs} {next : State.Procs} → Stands.Keeps (Stands.numbers procs) next → Holds (record { procs = procs; mail = k .mail; count = k .count }) (move next s)
+  moved-holds K = record { procs = K; mail = H .mail; counts = H .counts; settings = H .settings }
 
   -- only the mail changes
-  pub mailed-holds : (s : State) (box : ℕ → List Message) (hand : ℕ → Option Message) → Holds k s → Carries.Carries (Carries.numbers (r .mail)) box hand → r .procs ≡ k .procs → r .unused ≡ k .unused → r .count ≡ k .count
-      → Holds r (record { procs = s .procs; hand = hand; box = box; count = s .count })
-  mailed-holds s box hand H c p u n = record { procs = rw p (H .procs); unused = u ∙ H .unused; mail = c; counts-long = rw n (H .counts-long); counts = rw n (H .counts) }
+  pub mailed-holds : {mail : Mail′.Mail} {box : ℕ → List Message} {hand : ℕ → Option Message} → Carries.Carries (Carries.numbers mail) box hand
+      → Holds (record { procs = k .procs; mail = mail; count = k .count }) (record { procs = s .procs; hand = hand; box = box; count = s .count; settings = s .settings })
+  mailed-holds C = record { procs = H .procs; mail = C; counts = H .counts; settings = H .settings }
 
-  -- buffer b takes message x, which the first waiter at mailbox m gets in hand; it is made ready
-  pub handed-holds : (m w b n : ℕ) (l x : List ℕ) → Stands.numbers (r .procs) ≡ Procs.woken (atMailbox m) (Stands.numbers (k .procs)) → Carries.numbers (r .mail) ≡ Mail.handedOver (Carries.numbers (k .mail)) w b n
-      → r .unused ≡ k .unused → r .count ≡ k .count → length x ≡ n
-      → Becomes (λ s. (m < mailboxes) × (b < buffers) × (b ≡ freeBuffer s) × (s .procs .queue (atMailbox m) ≡ w ∷ l)) (Plain.deliver m (record { buffer = b; bytes = x }) (w ∷ l)) k r
-  handed-holds m w b n l x e c u t long s H S g =
-      let here = head-in slice (s .procs) (S .seated) (atMailbox m) w l (g .3) in
-      let who = member slice (s .procs) (S .seated) (atMailbox m) w here in
-      record {
-        procs = rw e (woken-held (H .procs) (S .seated) (atMailbox m) w l (g .3));
-        unused = u ∙ (H .unused ∙ sym (same-word (s .procs) (makeReady w (line (atMailbox m) l (s .procs))) (woken-used (s .procs) (S .seated) (S .highest) (atMailbox m) w l (omega arith) (g .3))));
-        mail = rw c (handed-carries (H .mail) b n (record { buffer = b; bytes = x }) (g .1) (free-held s b (g .2) (g .1)) refl long w (who .1) (S .waiter-hands m w (g .0) here));
-        counts-long = rw t (H .counts-long);
-        counts = rw t (H .counts);
-      }
+  module _ (S : Sound s) where
+    abbrev procs : Stands.Numbers
+    procs = Stands.numbers (k .procs)
 
-  -- buffer b takes message x and is queued last in mailbox m
-  pub queued-holds : (m b n : ℕ) (x : List ℕ) → Carries.numbers (r .mail) ≡ Mail.queuedLast (Carries.numbers (k .mail)) m b n → r .procs ≡ k .procs → r .unused ≡ k .unused → r .count ≡ k .count → length x ≡ n
-      → Becomes (λ s. (m < mailboxes) × (b < buffers) × (b ≡ freeBuffer s)) (Plain.deliver m (record { buffer = b; bytes = x }) []) k r
-  queued-holds m b n x c p u t long s H S g =
-      mailed-holds s _ _ H (rw c (queued-carries (H .mail) b n (record { buffer = b; bytes = x }) (g .1) (free-held s b (g .2) (g .1)) refl long m (g .0))) p u t
+    -- the caller joins the rear of queue q; choose
+    pub gone-kept : (q : ℕ) → s .procs .running ≢ 0 → classes ≤ q → q < queues → Stands.Keeps (Procs.wentTo slice q procs) (goTo (s .settings .slice) q (s .procs))
+    gone-kept q z h h′ = rw slice-is (went-kept (H .procs) (slice-some s S) (S .seated) (S .highest) q z h h′)
 
-  module _ (s : State) (H : Holds k s) (S : Sound s) (procs : r .procs ≡ k .procs) (unused : r .unused ≡ k .unused) (count : r .count ≡ k .count) where
+    -- the first of queue q, if someone waits there, is made ready
+    abbrev roused : ℕ → List ℕ → State.Procs
+    roused q [] = s .procs
+    roused q (w ∷ l) = makeReady (s .settings .slice) w (line q l (s .procs))
+
+    roused-kept : (q : ℕ) (l : List ℕ) → classes ≤ q → s .procs .queue q ≡ l → Stands.Keeps (Procs.woken slice q procs) (roused q l)
+    roused-kept q [] h e = rw (woken-nobody (H .procs .stands) slice q e) (H .procs)
+    roused-kept q (w ∷ l) h e = rw slice-is (woken-kept (H .procs) (slice-some s S) (S .seated) (S .highest) q w l h e)
+
+    -- p is stopped, by a number that is p's
+    pub stopped-holds : {r : Kernel} {q : ℕ} (p : ℕ) → q ≡ p → 1 ≤ p → p < processes → Made r (Procs.halted q procs) (Mail.letGo (Carries.numbers (k .mail)) q) (k .count) → Holds r (Plain.stopped p s)
+    stopped-holds {r} p e h h′ M =
+        made-holds (subst (λ (q : ℕ). Made r (Procs.halted q procs) (Mail.letGo (Carries.numbers (k .mail)) q) (k .count)) e M)
+        (halted-kept (H .procs) (slice-some s S) (S .seated) (S .highest) p h h′) (let-go-carries (H .mail) (S .mail) p h′) (H .counts) (H .settings)
+
+    -- buffer b takes message x, which the first waiter at mailbox m gets in hand, or which is queued last
+    pub delivered-holds : {r : Kernel} (m b n : ℕ) (x : List ℕ) → length x ≡ n → m < mailboxes → b < buffers → b ≡ freeBuffer s
+        → Made r (Procs.woken slice (atMailbox m) procs) (Mail.delivered (Carries.numbers (k .mail)) m (Procs.firstOf procs (atMailbox m)) b n) (k .count)
+        → Holds r (Plain.deliver m (record { buffer = b; bytes = x }) (s .procs .queue (atMailbox m)) s)
+    delivered-holds {r} m b n x long hm hb is M = go (s .procs .queue (atMailbox m)) refl
+      where
+        carries : (l : List ℕ) → s .procs .queue (atMailbox m) ≡ l
+            → Carries.Carries (Mail.delivered (Carries.numbers (k .mail)) m (Procs.firstOf procs (atMailbox m)) b n) (Plain.deliver m (record { buffer = b; bytes = x }) l s .box) (Plain.deliver m (record { buffer = b; bytes = x }) l s .hand)
+        carries l e = delivered-carries s (H .mail) b n (record { buffer = b; bytes = x }) hb (free-held s b is hb) refl long m (Procs.firstOf procs (atMailbox m)) l hm
+            (λ h. sym e ∙ first-nobody (H .procs) (atMailbox m) refl h)
+            (λ h. let f = first-there (H .procs) (atMailbox m) refl h in (f .0, sym e ∙ f .1))
+            (λ h. let f = first-there (H .procs) (atMailbox m) refl h in S .hands .waiters m (Procs.firstOf procs (atMailbox m)) hm (head-in (s .settings .slice) (s .procs) (S .seated) (atMailbox m) _ (f .0) (f .1)))
+
+        go : (l : List ℕ) → s .procs .queue (atMailbox m) ≡ l → Holds r (Plain.deliver m (record { buffer = b; bytes = x }) l s)
+        go [] e = made-holds M (roused-kept (atMailbox m) [] (omega arith) e) (carries [] e) (H .counts) (H .settings)
+        go (w ∷ l) e = made-holds M (roused-kept (atMailbox m) (w ∷ l) (omega arith) e) (carries (w ∷ l) e) (H .counts) (H .settings)
+
+    someone-first : (q : ℕ) (l : List ℕ) → s .procs .queue q ≡ l → ltb (Procs.firstOf procs q) processes ≡ someone l
+    someone-first q [] e = le-ltb (Procs.firstOf procs q) processes (first-none (H .procs .stands .queues) q e)
+    someone-first q (w ∷ l) e = let f = first-some (H .procs .stands .queues) q w l e in lt-ltb (Procs.firstOf procs q) processes (omega (arith, f .0, f .1))
+
+    -- the first waiter at semaphore i is made ready, or its count goes up
+    pub signalled-holds : {r : Kernel} (i : ℕ) → i < semaphores → s .count i ≢ highestCount
+        → Made r (Procs.woken slice (atSemaphore i) procs) (Carries.numbers (k .mail)) (Counts.signalled (k .count) i (ltb (Procs.firstOf procs (atSemaphore i)) processes))
+        → Holds r (Plain.wake i (s .procs .queue (atSemaphore i)) s)
+    signalled-holds {r} i h top M = go (s .procs .queue (atSemaphore i)) refl
+      where
+        counted : (l : List ℕ) → s .procs .queue (atSemaphore i) ≡ l → Counts.Counted (Counts.signalled (k .count) i (ltb (Procs.firstOf procs (atSemaphore i)) processes)) (Plain.wake i l s .count)
+        counted l e = rw (someone-first (atSemaphore i) l e) (signalled-counted s (H .counts) i h l (omega (arith, top, S .counts .most i)))
+
+        go : (l : List ℕ) → s .procs .queue (atSemaphore i) ≡ l → Holds r (Plain.wake i l s)
+        go [] e = made-holds M (roused-kept (atSemaphore i) [] (omega arith) e) (H .mail) (counted [] e) (H .settings)
+        go (w ∷ l) e = made-holds M (roused-kept (atSemaphore i) (w ∷ l) (omega arith) e) (H .mail) (counted (w ∷ l) e) (H .settings)
+
+    -- a wait that passes semaphore i
+    pub claimed-holds : (i : ℕ) → i < semaphores → s .count i ≡ suc (s .count i - 1) → Holds (record { procs = k .procs; mail = k .mail; count = Counts.claimed (k .count) i }) (State.score i (s .count i - 1) s)
+    claimed-holds i h e = record {
+      procs = H .procs;
+      mail = H .mail;
+      counts = subst (λ (n : ℕ). Counts.Counted (Counts.claimed (k .count) i) (Plain.claim i n s .next .count)) e (claimed-counted s (H .counts) i h);
+      settings = H .settings;
+    }
+
     -- the first message of mailbox m goes into the caller's hand
-    pub taken-holds : (m : ℕ) (x : Message) (l : List Message) → Carries.numbers (r .mail) ≡ Mail.taken (Carries.numbers (k .mail)) m (s .procs .running) → m < mailboxes → s .box m ≡ x ∷ l → s .hand (s .procs .running) ≡ none
-        → Holds r (State.give (s .procs .running) (some x) (State.fill m l s))
-    taken-holds m x l c h e empty = mailed-holds s _ _ H (rw c (taken-carries (H .mail) m (s .procs .running) x l h (runner-range slice (s .procs) (S .seated)) e empty)) procs unused count
+    pub fetched-carried : (m : ℕ) (x : Message) (l : List Message) → m < mailboxes → s .box m ≡ x ∷ l → Plain.hand s ≡ none
+        → Carries.Carries (Mail.fetched (Carries.numbers (k .mail)) m (s .procs .running)) (State.fill m l s .box) (State.give (s .procs .running) (some x) s .hand)
+    fetched-carried m x l h e empty = fetched-carries (H .mail) m (s .procs .running) x l h (runner-range (s .settings .slice) (s .procs) (S .seated)) e empty
 
     -- the caller's hand is emptied
-    pub released-holds : Carries.numbers (r .mail) ≡ Mail.letGo (Carries.numbers (k .mail)) (s .procs .running) → Holds r (State.give (s .procs .running) none s)
-    released-holds c = mailed-holds s _ _ H (rw c (let-go-carries (H .mail) (S .mail) (s .procs .running) (runner-range slice (s .procs) (S .seated)))) procs unused count
+    pub released-carried : Carries.Carries (Mail.letGo (Carries.numbers (k .mail)) (s .procs .running)) (s .box) (State.give (s .procs .running) none s .hand)
+    released-carried = let-go-carries (H .mail) (S .mail) (s .procs .running) (runner-range (s .settings .slice) (s .procs) (S .seated))

@@ -10,14 +10,13 @@ use lib.Dec.{ltb}
 use lib.ListN.{length, getD, List·getD-eq-default}
 use borrow.Author.Tests.{lt-ltb, le-ltb}
 use Rattle.lists.specs.Lists.{someone}
-use Rattle.bits.specs.Word.{bits}
 use Rattle.rings.proofs.Laws.{one-reading}
 use Rattle.rings.proofs.Looks.{first-some, first-none}
 use Rattle.rings.specs.Moves.{first}
 use Rattle.rings.specs.Walk.{Says, Stand}
 use Rattle.boxes.specs.Box as Box
 use Rattle.boxes.specs.Box.{num}
-use Rattle.plain.specs.Sizes.{mailboxes, buffers, semaphores}
+use Rattle.plain.specs.Sizes.{slice, mailboxes, buffers, semaphores}
 use Rattle.plain.specs.State as State
 use Rattle.plain.specs.State.{Message, State, buffersOf}
 use Rattle.procs.specs.Stands as Stands
@@ -27,13 +26,14 @@ use Rattle.stock.specs.Stock as Stock
 use Rattle.kernel.specs.Holds.{IsSound}
 use Rattle.waits.specs.Waits.{AllFit, isHolding}
 use Rattle.kernel.specs.declared.Kernel.{Kernel}
+use Rattle.kernel.proofs.Changes.{slice-is}
 use Rattle.kernel.proofs.Reading.{top}
 use Rattle.kernel.proofs.Whole.{fits, empty-bit, whole}
 
 module _ (k : Kernel) where
-  pub not-seated : (ok : Bool) (at : List ℕ) → not ok ≡ true → Seats.Answer (Stands.numbers (k .procs)) (k .unused) ok at → IsSound k → ⊥
+  pub not-seated : (ok : Bool) (at : List ℕ) → not ok ≡ true → Seats.Answer slice (Stands.numbers (k .procs)) ok at → IsSound k → ⊥
   not-seated true at e a s = true≢false (sym e)
-  not-seated false at e (never, z) (s, H, S) = never (s .procs) (record { stands = H .procs; bits = H .unused; seated = S .seated; highest = S .highest })
+  not-seated false at e (never, z) (s, H, S) = never (s .procs) (record { keeps = H .procs; seated = rw (slice-is H) (S .seated); highest = S .highest })
 
   pub not-stocked : (ok : Bool) → not ok ≡ true → Stock.Answer (Carries.numbers (k .mail)) ok → IsSound k → ⊥
   not-stocked true e a s = true≢false (sym e)
@@ -56,7 +56,7 @@ module _ (k : Kernel) where
   abbrev All : List ℕ → Type 0
   All at = AllFit at (k .procs .running .0) (k .mail .full) (map num (k .mail .boxes .next)) (k .count)
 
-  module _ {at : List ℕ} {r : State.Procs} (P : Seats.Placed (Stands.numbers (k .procs)) (k .unused) r) (A : Stand (r .queue) at) where
+  module _ {at : List ℕ} {r : State.Procs} (P : Seats.Placed slice (Stands.numbers (k .procs)) r) (A : Stand (r .queue) at) where
     runs : (s : State.Procs) → Stands.Stands (Stands.numbers (k .procs)) s → k .procs .running .0 ≡ s .running
     unfolding Stands.numbers
     runs s S = S .running
@@ -68,24 +68,24 @@ module _ (k : Kernel) where
     all : IsSound k → All at
     all (s, H, S) =
         let is = full-is (H .mail) ∙ H .mail .full in
-        let stands : Stand (s .procs .queue) at = subst (λ (f : ℕ → List ℕ). Stand f at) (one-reading (P .stands .queues) (H .procs .queues)) A in
+        let stands : Stand (s .procs .queue) at = subst (λ (f : ℕ → List ℕ). Stand f at) (one-reading (P .keeps .stands .queues) (H .procs .stands .queues)) A in
         record {
-          null = empty-bit s at (k .mail .full) (isHolding (map num (k .mail .boxes .next))) is (holding-is (H .mail)) stands 0 (omega arith) (S .null-hand);
-          others = λ p h h′. rw (runs (s .procs) (H .procs), fun-ext (H .counts))
+          null = empty-bit s at (k .mail .full) (isHolding (map num (k .mail .boxes .next))) is (holding-is (H .mail)) stands 0 (omega arith) (S .hands .null);
+          others = λ p h h′. rw (runs (s .procs) (H .procs .stands), fun-ext (H .counts .each))
               (fits s at (k .mail .full) (isHolding (map num (k .mail .boxes .next))) is (holding-is (H .mail)) stands S p h h′);
         }
 
     sound : {box : ℕ → List Message} {hand : ℕ → Option Message} → Stock.Stocked (Carries.numbers (k .mail)) box hand → length (k .count) ≡ semaphores → ((i : ℕ) → getD (k .count) i 0 ≤ 65535) → All at → IsSound k
     sound {box} {hand} Q long low F =
-        let s : State = record { procs = r; box = box; hand = hand; count = λ i. getD (k .count) i 0 } in (
+        let s : State = record { procs = r; box = box; hand = hand; count = λ i. getD (k .count) i 0; settings = State.fresh .settings } in (
           s,
-          record { procs = P .stands; unused = P .bits; mail = Q .carries; counts-long = long; counts = λ i. refl },
-          whole s at (k .mail .full) (isHolding (map num (k .mail .boxes .next))) (full-is (Q .carries) ∙ Q .carries .full) (holding-is (Q .carries)) A (P .seated) (P .highest) (Q .mail)
+          record { procs = P .keeps; mail = Q .carries; counts = record { long = long; each = λ i. refl }; settings = refl },
+          whole s at (k .mail .full) (isHolding (map num (k .mail .boxes .next))) (full-is (Q .carries) ∙ Q .carries .full) (holding-is (Q .carries)) A (record { three-ticks = refl }) (P .seated) (P .highest) (Q .mail)
               (Q .carries .no-more-hands) (λ i. omega (arith, low i, top)) (λ i h. List·getD-eq-default (k .count) 0 (omega arith)) (F .null)
-              (λ p h h′. rw (sym (runs r (P .stands))) (F .others p h h′)),
+              (λ p h h′. rw (sym (runs r (P .keeps .stands))) (F .others p h h′)),
         )
 
-  pub decided : length (k .count) ≡ semaphores → ((i : ℕ) → getD (k .count) i 0 ≤ 65535) → (ok : Bool) (at : List ℕ) → not ok ≡ false → Seats.Answer (Stands.numbers (k .procs)) (k .unused) ok at
+  pub decided : length (k .count) ≡ semaphores → ((i : ℕ) → getD (k .count) i 0 ≤ 65535) → (ok : Bool) (at : List ℕ) → not ok ≡ false → Seats.Answer slice (Stands.numbers (k .procs)) ok at
       → (stocked : Bool) → not stocked ≡ false → Stock.Answer (Carries.numbers (k .mail)) stocked → (b : Bool) → Says b (All at) → Says b (IsSound k)
   decided long low false at e a o g c b f = absurd (true≢false e)
   decided long low true at e a false g c b f = absurd (true≢false g)

@@ -6,13 +6,15 @@ use mathlib.Core.List.{List, [], _∷_}
 use mathlib.Core.Path.{_≡_, refl}
 use lib.Dec.{eqb, leb, ltb}
 use lib.ListN.{length, getD}
-use Rattle.bits.specs.Word.{bits}
+use Rattle.procs.proofs.Looks.{lowest-unused, no-process}
+use Rattle.procs.specs.Moves.{lowestUnused, unusedAt}
+use Rattle.procs.specs.Stands as Stands
 use Rattle.plain.specs.Calls as Plain
 use Rattle.plain.specs.Calls.{on, noClass, noMailbox, noSemaphore}
 use Rattle.plain.specs.Sizes.{processes, buffers, longest, highestCount, storeSize}
-use Rattle.mail.proofs.Looks.{full-box}
+use Rattle.mail.proofs.Looks.{full-box, lowest-free}
 use Rattle.mail.specs.Carries.{numbers}
-use Rattle.mail.specs.Moves.{isFullBox}
+use Rattle.mail.specs.Moves.{isFullBox, lowestFree, hasMessage, lengthInHand}
 use Rattle.verdicts.specs.Chain.{found}
 use Rattle.verdicts.specs.declared.Facts.{Facts}
 use Rattle.verdicts.specs.declared.Verdict.{Verdict}
@@ -20,7 +22,7 @@ use Rattle.kernel.specs.Judged.{Gathered, Judged}
 use Rattle.promise.specs.Promise.{noStore}
 use Rattle.kernel.specs.declared.Kernel.{Kernel}
 use Rattle.kernel.proofs.Judging.{judged-by}
-use Rattle.kernel.proofs.Reading.{no-process}
+use Rattle.kernel.proofs.Reading.{hand-full, length-held}
 
 module _ {k : Kernel} {f : Facts} {v : Verdict} (G : Gathered k f) where
   pub judged-tick : v ≡ found (on 14 (not (f .sound)) ∷ []) → Judged (λ s. Plain.refusals s Plain.tick) k v
@@ -35,37 +37,37 @@ module _ {k : Kernel} {f : Facts} {v : Verdict} (G : Gathered k f) where
   unfolding Plain.refusals
   judged-yield e = judged-by (f .sound) (G .sound) e (λ s H. rw (G .runs s H) refl)
 
-  pub judged-create : (c : ℕ) → v ≡ found (on 14 (not (f .sound)) ∷ noClass c ∷ on 10 (eqb (f .unused) processes) ∷ []) → Judged (λ s. Plain.refusals s (Plain.create c)) k v
+  pub judged-create : (c : ℕ) {p : ℕ} → p ≡ lowestUnused (Stands.numbers (k .procs)) → v ≡ found (on 14 (not (f .sound)) ∷ noClass c ∷ on 10 (eqb p processes) ∷ []) → Judged (λ s. Plain.refusals s (Plain.create c)) k v
   unfolding Plain.refusals
-  judged-create c e = judged-by (f .sound) (G .sound) e (λ s H. rw (G .lowest s H) refl)
+  judged-create c b e = judged-by (f .sound) (G .sound) e (λ s H. rw (b, lowest-unused (H .procs)) refl)
 
-  pub judged-stop : (p : ℕ) {unused : Bool} → unused ≡ bits (k .unused) p → v ≡ found (on 14 (not (f .sound)) ∷ on 1 (eqb p 0 || (leb processes p || unused)) ∷ []) → Judged (λ s. Plain.refusals s (Plain.stop p)) k v
+  pub judged-stop : (p : ℕ) {unused : Bool} → unused ≡ unusedAt (Stands.numbers (k .procs)) p → v ≡ found (on 14 (not (f .sound)) ∷ on 1 (eqb p 0 || (leb processes p || unused)) ∷ []) → Judged (λ s. Plain.refusals s (Plain.stop p)) k v
   unfolding Plain.refusals
-  judged-stop p b e = judged-by (f .sound) (G .sound) e (λ s H. rw (b, no-process H p) refl)
+  judged-stop p b e = judged-by (f .sound) (G .sound) e (λ s H. rw (b, no-process (H .procs) p) refl)
 
   pub judged-class : (c : ℕ) → v ≡ found (on 14 (not (f .sound)) ∷ on 5 (eqb (f .runner) 0) ∷ noClass c ∷ []) → Judged (λ s. Plain.refusals s (Plain.class c)) k v
   unfolding Plain.refusals
   judged-class c e = judged-by (f .sound) (G .sound) e (λ s H. rw (G .runs s H) refl)
 
-  pub judged-send : (store x : List ℕ) {held n : ℕ} (m : ℕ) {full : Bool} → length store ≡ held → length x ≡ n → full ≡ isFullBox (numbers (k .mail)) m → v ≡ found (on 14 (not (f .sound)) ∷ on 15 (not (eqb held storeSize)) ∷ noMailbox m ∷ on 6 (ltb longest n) ∷ on 11 full ∷ on 12 (eqb (f .free) buffers) ∷ []) → Judged (λ s. noStore store ∷ Plain.refusals s (Plain.send m x)) k v
+  pub judged-send : (store x : List ℕ) {held n : ℕ} (m : ℕ) {full : Bool} {b : ℕ} → length store ≡ held → length x ≡ n → full ≡ isFullBox (numbers (k .mail)) m → b ≡ lowestFree (numbers (k .mail)) → v ≡ found (on 14 (not (f .sound)) ∷ on 15 (not (eqb held storeSize)) ∷ noMailbox m ∷ on 6 (ltb longest n) ∷ on 11 full ∷ on 12 (eqb b buffers) ∷ []) → Judged (λ s. noStore store ∷ Plain.refusals s (Plain.send m x)) k v
   unfolding Plain.refusals
-  judged-send store x m d l b e = judged-by (f .sound) (G .sound) e (λ s H. rw (d, l, b, full-box (H .mail) m, G .free s H) refl)
+  judged-send store x m d l full free e = judged-by (f .sound) (G .sound) e (λ s H. rw (d, l, full, full-box (H .mail) m, free, lowest-free s (H .mail)) refl)
 
-  pub judged-receive : (m : ℕ) → v ≡ found (on 14 (not (f .sound)) ∷ on 5 (eqb (f .runner) 0) ∷ noMailbox m ∷ on 7 (f .hand) ∷ []) → Judged (λ s. Plain.refusals s (Plain.receive m)) k v
+  pub judged-receive : (m : ℕ) {hand : Bool} → hand ≡ hasMessage (numbers (k .mail)) (k .procs .running .0) → v ≡ found (on 14 (not (f .sound)) ∷ on 5 (eqb (f .runner) 0) ∷ noMailbox m ∷ on 7 hand ∷ []) → Judged (λ s. Plain.refusals s (Plain.receive m)) k v
   unfolding Plain.refusals
-  judged-receive m e = judged-by (f .sound) (G .sound) e (λ s H. rw (G .runs s H, G .full s H) refl)
+  judged-receive m h e = judged-by (f .sound) (G .sound) e (λ s H. rw (G .runs s H, h, hand-full H) refl)
 
-  pub judged-release : v ≡ found (on 14 (not (f .sound)) ∷ on 5 (eqb (f .runner) 0) ∷ on 8 (not (f .hand)) ∷ []) → Judged (λ s. Plain.refusals s Plain.release) k v
+  pub judged-release : {hand : Bool} → hand ≡ hasMessage (numbers (k .mail)) (k .procs .running .0) → v ≡ found (on 14 (not (f .sound)) ∷ on 5 (eqb (f .runner) 0) ∷ on 8 (not hand) ∷ []) → Judged (λ s. Plain.refusals s Plain.release) k v
   unfolding Plain.refusals
-  judged-release e = judged-by (f .sound) (G .sound) e (λ s H. rw (G .runs s H, G .full s H, Bool·not-not) refl)
+  judged-release h e = judged-by (f .sound) (G .sound) e (λ s H. rw (G .runs s H, h, hand-full H, Bool·not-not) refl)
 
-  pub judged-read : (store : List ℕ) {held : ℕ} (room : ℕ) → length store ≡ held → v ≡ found (on 14 (not (f .sound)) ∷ on 15 (not (eqb held storeSize)) ∷ on 5 (eqb (f .runner) 0) ∷ on 8 (not (f .hand)) ∷ record { code = 9; number = f .length; holds = ltb room (f .length) } ∷ []) → Judged (λ s. noStore store ∷ Plain.refusals s (Plain.read room)) k v
+  pub judged-read : (store : List ℕ) {held : ℕ} (room : ℕ) {hand : Bool} {n : ℕ} → length store ≡ held → hand ≡ hasMessage (numbers (k .mail)) (k .procs .running .0) → n ≡ lengthInHand (numbers (k .mail)) (k .procs .running .0) → v ≡ found (on 14 (not (f .sound)) ∷ on 15 (not (eqb held storeSize)) ∷ on 5 (eqb (f .runner) 0) ∷ on 8 (not hand) ∷ record { code = 9; number = n; holds = ltb room n } ∷ []) → Judged (λ s. noStore store ∷ Plain.refusals s (Plain.read room)) k v
   unfolding Plain.refusals
-  judged-read store room d e = judged-by (f .sound) (G .sound) e (λ s H. rw (d, G .runs s H, G .full s H, Bool·not-not, G .long s H) refl)
+  judged-read store room d h l e = judged-by (f .sound) (G .sound) e (λ s H. rw (d, G .runs s H, h, hand-full H, Bool·not-not, l, length-held H) refl)
 
   pub judged-signal : (i : ℕ) {count : ℕ} → count ≡ getD (k .count) i 0 → v ≡ found (on 14 (not (f .sound)) ∷ noSemaphore i ∷ on 13 (eqb count highestCount) ∷ []) → Judged (λ s. Plain.refusals s (Plain.signal i)) k v
   unfolding Plain.refusals
-  judged-signal i b e = judged-by (f .sound) (G .sound) e (λ s H. rw (b, H .counts i) refl)
+  judged-signal i b e = judged-by (f .sound) (G .sound) e (λ s H. rw (b, H .counts .each i) refl)
 
   pub judged-wait : (i : ℕ) → v ≡ found (on 14 (not (f .sound)) ∷ on 5 (eqb (f .runner) 0) ∷ noSemaphore i ∷ []) → Judged (λ s. Plain.refusals s (Plain.wait i)) k v
   unfolding Plain.refusals

@@ -18,8 +18,8 @@ use Rattle.rings.proofs.Walks.{stands-nowhere, stands-there}
 use Rattle.rings.specs.Ring.{Absent}
 use Rattle.rings.specs.Walk.{Stand}
 use Rattle.plain.specs.Calls.{isEmpty}
-use Rattle.plain.specs.Sizes.{processes, mailboxes, semaphores, queues, highestCount, slice, atMailbox, atSemaphore}
-use Rattle.plain.specs.Sound.{Sound, Seated, Highest, Mail, In}
+use Rattle.plain.specs.Sizes.{processes, mailboxes, semaphores, queues, highestCount, atMailbox, atSemaphore}
+use Rattle.plain.specs.Sound.{Sound, Set as Settled, Seated, Highest, Mail, In}
 use Rattle.plain.specs.State as State
 use Rattle.plain.specs.State.{Message, State, places}
 use Rattle.plain_laws.proofs.Places.{runs-once}
@@ -50,43 +50,47 @@ module _ (s : State) (at : List ℕ) (full : ℕ) (holding : ℕ → Bool) (is-f
       record {
         hand = λ f. record {
           used = λ z. ⊎-elim (λ e. e)
-              (λ (e : eqb p (s .procs .running) ≡ false). absurd (true≢false (sym f ∙ empty-bit p h′ (k .unused-hands p
+              (λ (e : eqb p (s .procs .running) ≡ false). absurd (true≢false (sym f ∙ empty-bit p h′ (k .hands .unused p
               (nowhere-at-all (s .procs) p (λ d. eqb-false p (s .procs .running) e (sym d)) (stands-nowhere (s .procs .queue) at stands p z))))))
               (either (eqb p (s .procs .running)));
-          no-mailbox = λ m b e. true≢false (sym f ∙ empty-bit p h′ (k .waiter-hands m p b (there (atMailbox m) e)));
+          no-mailbox = λ m b e. true≢false (sym f ∙ empty-bit p h′ (k .hands .waiters m p b (there (atMailbox m) e)));
         };
         lying = record {
-          at-mailbox = λ m b e. is-holding m b ∙ ap someone (k .box-waits m p b (there (atMailbox m) e));
-          at-semaphore = λ i b e. k .count-waits i p b (there (atSemaphore i) e);
+          at-mailbox = λ m b e. is-holding m b ∙ ap someone (k .waits .boxes m p b (there (atMailbox m) e));
+          at-semaphore = λ i b e. k .waits .counts i p b (there (atSemaphore i) e);
         };
       }
 
   -- where each process fits, sound processes and sound mail make a sound state
-  pub whole : Seated slice (s .procs) → Highest (s .procs) → Mail (s .box) (s .hand) → ((p : ℕ) → processes ≤ p → s .hand p ≡ none) → ((i : ℕ) → s .count i ≤ highestCount)
+  pub whole : Settled (s .settings) → Seated (s .settings .slice) (s .procs) → Highest (s .procs) → Mail (s .box) (s .hand) → ((p : ℕ) → processes ≤ p → s .hand p ≡ none) → ((i : ℕ) → s .count i ≤ highestCount)
       → ((i : ℕ) → semaphores ≤ i → s .count i ≡ 0) → bits full 0 ≡ false
       → ((p : ℕ) → 1 ≤ p → p < processes → WaitFits (getD at p 0) (eqb p (s .procs .running)) (bits full p) holding (s .count)) → Sound s
-  whole seated highest mail no-more-hands counts no-more-counts null fit =
-      let who : (q p : ℕ) → In (s .procs) q p → (1 ≤ p) × (p < processes) = λ q p o. member slice (s .procs) seated q p o in
+  whole settings seated highest mail no-more-hands counts no-more-counts null fit =
+      let who : (q p : ℕ) → In (s .procs) q p → (1 ≤ p) × (p < processes) = λ q p o. member (s .settings .slice) (s .procs) seated q p o in
       let there : (q p : ℕ) → In (s .procs) q p → getD at p 0 ≡ suc q = λ q p o. omega (arith, stands .there p q o) in
       let no-hand : (p : ℕ) → 1 ≤ p → p < processes → (HandFits (getD at p 0) (eqb p (s .procs .running)) → ⊥) → s .hand p ≡ none = λ p h h′ n.
       hand-empty p h′ (⊎-elim (λ e. absurd (n (fit p h h′ .hand e))) (λ e. e) (either (bits full p))) in
       record {
+        settings = settings;
         seated = seated;
         highest = highest;
         mail = mail;
-        unused-hands = λ p z. ⊎-elim (λ h. no-more-hands p h)
-            (λ (h : p < processes). ⊎-elim (λ (e : p ≡ 0). rw e (hand-empty 0 (omega arith) null))
-            (λ (e : p ≢ 0). no-hand p (omega arith) h (λ f. omega (
-              arith,
-              runs-once (s .procs),
-              ap (places (s .procs)) (eqb-true p (s .procs .running) (f .used (stands .nowhere p (λ q. nowhere slice (s .procs) seated p q z)))),
-            )))
-            (same? p 0))
-            (le? processes p);
-        null-hand = hand-empty 0 (omega arith) null;
-        waiter-hands = λ m p h o. let w = who (atMailbox m) p o in no-hand p (w .0) (w .1) (λ f. f .no-mailbox m h (there (atMailbox m) p o));
-        box-waits = λ m p h o. let w = who (atMailbox m) p o in nobody-there (s .box m) (sym (is-holding m h) ∙ fit p (w .0) (w .1) .lying .at-mailbox m h (there (atMailbox m) p o));
-        count-waits = λ i p h o. let w = who (atSemaphore i) p o in fit p (w .0) (w .1) .lying .at-semaphore i h (there (atSemaphore i) p o);
-        counts = counts;
-        no-more-counts = no-more-counts;
+        hands = record {
+          unused = λ p z. ⊎-elim (λ h. no-more-hands p h)
+              (λ (h : p < processes). ⊎-elim (λ (e : p ≡ 0). rw e (hand-empty 0 (omega arith) null))
+              (λ (e : p ≢ 0). no-hand p (omega arith) h (λ f. omega (
+                arith,
+                runs-once (s .procs),
+                ap (places (s .procs)) (eqb-true p (s .procs .running) (f .used (stands .nowhere p (λ q. nowhere (s .settings .slice) (s .procs) seated p q z)))),
+              )))
+              (same? p 0))
+              (le? processes p);
+          null = hand-empty 0 (omega arith) null;
+          waiters = λ m p h o. let w = who (atMailbox m) p o in no-hand p (w .0) (w .1) (λ f. f .no-mailbox m h (there (atMailbox m) p o));
+        };
+        waits = record {
+          boxes = λ m p h o. let w = who (atMailbox m) p o in nobody-there (s .box m) (sym (is-holding m h) ∙ fit p (w .0) (w .1) .lying .at-mailbox m h (there (atMailbox m) p o));
+          counts = λ i p h o. let w = who (atSemaphore i) p o in fit p (w .0) (w .1) .lying .at-semaphore i h (there (atSemaphore i) p o);
+        };
+        counts = record { most = counts; no-more = no-more-counts };
       }

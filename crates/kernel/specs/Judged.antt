@@ -1,16 +1,16 @@
--- What is known once a call has been judged, before it does anything: not sound, or the verdict on its refusals.
+-- Midway in a call: what is known once it has been judged, and what the state is made of once it has been done.
 -- Assumes nothing.
 use Prim.Native.Nat.{ℕ}
-use mathlib.Core.Bool.{not}
 use mathlib.Core.List.{List}
 use mathlib.Core.Path.{_≡_}
 use lib.Dec.{eqb}
-use lib.ListN.{length}
 use Rattle.lists.specs.Lists.{if_then_else_}
 use Rattle.rings.specs.Walk.{Says}
-use Rattle.plain.specs.Calls.{Refusal, isEmpty, bytesIn, hand}
+use Rattle.plain.specs.Calls.{Refusal}
 use Rattle.plain.specs.Sound.{Sound}
-use Rattle.plain.specs.State.{State, freeProcess, freeBuffer}
+use Rattle.plain.specs.State.{State}
+use Rattle.procs.specs.Stands as Procs
+use Rattle.mail.specs.Carries as Mail
 use Rattle.verdicts.specs.Chain.{verdict, found}
 use Rattle.verdicts.specs.declared.Facts.{Facts}
 use Rattle.verdicts.specs.declared.Verdict.{Verdict}
@@ -22,10 +22,6 @@ use Rattle.kernel.specs.declared.Kernel.{Kernel}
 pub record Gathered (k : Kernel) (f : Facts) : Type 0 where
   pub sound : Says (f .sound) (IsSound k)
   pub runs : (s : State) → Holds k s → f .runner ≡ s .procs .running
-  pub full : (s : State) → Holds k s → f .hand ≡ not (isEmpty (hand s))
-  pub long : (s : State) → Holds k s → f .length ≡ length (bytesIn (hand s))
-  pub lowest : (s : State) → Holds k s → f .unused ≡ freeProcess (s .procs)
-  pub free : (s : State) → Holds k s → f .free ≡ freeBuffer s
 
 -- the verdict v on a call with the refusals rs, in state k
 pub data Judged (rs : State → List Refusal) (k : Kernel) (v : Verdict) : Type 0 where
@@ -39,6 +35,8 @@ answered k code number = record { state = k; answer = record { code = code; numb
 abbrev pub refusedWith : Kernel → Verdict → Done
 refusedWith k v = record { state = k; answer = record { code = v .code; number = v .number; running = if eqb (v .code) 14 then 0 else k .procs .running .0 } }
 
--- r holds what f makes of the sound state that k holds, where Given says so of it
-abbrev pub Becomes : (State → Type 0) → (State → State) → Kernel → Kernel → Type 0
-Becomes Given f k r = (s : State) → Holds k s → Sound s → Given s → Holds r (f s)
+-- k is made of these processes, this mail and these counts
+pub record Made (k : Kernel) (p : Procs.Numbers) (m : Mail.Numbers) (c : List ℕ) : Type 0 where
+  pub procs : Procs.numbers (k .procs) ≡ p
+  pub mail : Mail.numbers (k .mail) ≡ m
+  pub count : k .count ≡ c

@@ -1,10 +1,11 @@
 // The kernel: its state by value, the decision whether a state is sound, and every call as a method that hands back the next state beside the answer.
 ghost use mathlib.Core.Path.{_≡_};
-ghost use Rattle.plain.specs.State.{State, fresh};
+ghost use Rattle.plain.specs.State.{fresh};
 ghost use Rattle.kernel.specs.Holds.{Holds};
 ghost use Rattle.kernel.specs.Judged.{Gathered, answered, refusedWith};
 use mail::Mail;
 use procs::Procs;
+use sizes::Pid;
 use verdicts::Facts;
 use verdicts::Verdict;
 
@@ -13,11 +14,11 @@ mod processes;
 mod semaphores;
 mod sound;
 
-const ALL_BUT_0: u32 = 4294967294;
+// The ticks of a full slice.
+pub(crate) const SLICE: u8 = sizes::SLICE as u8;
 
 pub struct Kernel {
     pub procs: Procs,
-    pub unused: u32,
     pub mail: Mail,
     pub count: [u16; sizes::SEMAPHORES],
 }
@@ -43,20 +44,21 @@ impl Kernel {
         let procs = Procs::fresh();
         let mail = Mail::fresh();
         let count = [0u16; sizes::SEMAPHORES];
-        Kernel {
-            procs,
-            unused: ALL_BUT_0,
-            mail,
-            count,
-        }
+        Kernel { procs, mail, count }
+    }
+
+    // The process that runs.
+    fn caller(self) -> Pid
+        ensures { λ r. ⌜ r .0 ≡ self .procs .running .0 ⌝ }
+    {
+        let k = self.procs;
+        k.running
     }
 
     fn runner(self) -> u32
         ensures { λ r. ⌜ r ≡ self .procs .running .0 ⌝ }
     {
-        let k = self.procs;
-        let p = k.running;
-        p.0 as u32
+        self.caller().0 as u32
     }
 
     // The state with a code, a number and the process that runs.
@@ -91,30 +93,32 @@ impl Kernel {
     }
 
     fn with_procs(mut self, next: Procs) -> Kernel
-        ensures { λ r. ⌜ r ≡ record { procs = next; unused = self .unused; mail = self .mail; count = self .count } ⌝ }
+        ensures { λ r. ⌜ r ≡ record { procs = next; mail = self .mail; count = self .count } ⌝ }
     {
         self.procs = next;
         self
     }
 
-    // What is read off the state before a call is judged.
+    fn with_mail(mut self, next: Mail) -> Kernel
+        ensures { λ r. ⌜ r ≡ record { procs = self .procs; mail = next; count = self .count } ⌝ }
+    {
+        self.mail = next;
+        self
+    }
+
+    fn with_count(mut self, next: [u16; sizes::SEMAPHORES]) -> Kernel
+        ensures { λ r. ⌜ r ≡ record { procs = self .procs; mail = self .mail; count = next } ⌝ }
+    {
+        self.count = next;
+        self
+    }
+
+    // What is read off the state before any call is judged.
     fn facts(self) -> Facts
         ensures { λ r. ⌜ Gathered self r ⌝ }
     {
-        let mail = self.mail;
-        let runner = self.runner();
         let sound = self.is_sound();
-        let hand = mail.has_message(runner);
-        let length = mail.length_in_hand(runner);
-        let unused = bits::lowest_bit(self.unused);
-        let free = mail.lowest_free();
-        Facts {
-            sound,
-            runner,
-            hand,
-            length,
-            unused,
-            free,
-        }
+        let runner = self.runner();
+        Facts { sound, runner }
     }
 }

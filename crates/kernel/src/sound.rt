@@ -2,13 +2,14 @@
 ghost use Rattle.rings.specs.Walk.{Says};
 ghost use Rattle.kernel.specs.Holds.{IsSound};
 use crate::Kernel;
+use crate::SLICE;
 
 impl Kernel {
     pub fn is_sound(self) -> bool
         ensures { λ r. ⌜ Says r (IsSound self) ⌝ }
     {
         let k = self.procs;
-        let found = seats::seated(k, self.unused);
+        let found = seats::seated(k, SLICE);
         if !found.ok {
             return false;
         }
@@ -21,6 +22,6 @@ impl Kernel {
         let boxes = mail.boxes;
         let next = boxes.next;
         let count = self.count;
-        waits::all_fit(at, running.0, mail.full, next, count)
+        waits::all_fit(at, running, mail.full, next, count)
     }
 }

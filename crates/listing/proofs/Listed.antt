@@ -2,9 +2,9 @@
 -- Assumes nothing.
 use Prim.Native.Nat.{ℕ, _≤_, zero-le}
 use mathlib.Core.Bool.{Bool, true, false}
-use mathlib.Core.List.{List, [], _∷_, _++_}
+use mathlib.Core.List.{List}
 use mathlib.Core.Logic.{_≢_, ⊎-elim}
-use mathlib.Core.Path.{_≡_, refl, sym, ap, _∙_, subst}
+use mathlib.Core.Path.{_≡_, refl, sym, ap, _∙_}
 use native.Mathlib.Omega.{arith}
 use lib.Dec.{ltb}
 use lib.ListN.{length, getD}
@@ -22,7 +22,7 @@ use Rattle.kernel.specs.Promise.{Call}
 use Rattle.kernel.specs.declared.Answer.{Answer}
 use Rattle.kernel.specs.declared.Kernel.{Kernel}
 use Rattle.verdicts.specs.declared.Verdict.{Verdict}
-use Rattle.verdicts.proofs.Found.{Proper}
+use Rattle.plain_laws.proofs.Refusals.{Proper}
 use Rattle.image.specs.Image.{Sized, Read}
 use Rattle.board.proofs.Calls.{called}
 use Rattle.rows.proofs.Rows.{row-is}
@@ -33,7 +33,7 @@ use Rattle.listing.specs.Listed.{Tabled, Lists}
 use Rattle.listing.proofs.Filled.{filled, filled-length, past, among}
 
 proper : (m : ℕ) (s : State) → Proper (refusals m s)
-proper m s = omega arith
+proper m s = (omega arith, tt)
 
 -- what refuses writes no row
 none-allowed : (v : Verdict) → v .code ≢ 0 → allowed v ≡ 0

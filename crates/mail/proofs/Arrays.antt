@@ -6,7 +6,7 @@ use mathlib.Core.List.{List, [], _∷_, map}
 use native.Mathlib.Omega.{arith}
 use lib.ListN.{length, getD, set, length-map, List·getD-eq-default}
 use lib.Seq.{set-out}
-use Rattle.boxes.specs.declared.Bid.{Bid}
+use Rattle.sizes.specs.declared.Bid.{Bid}
 use Rattle.boxes.specs.Box.{num}
 
 pub stored : (t : List Bid) (i : ℕ) (b : Bid) → map num (set t i b) ≡ set (map num t) i (num b)

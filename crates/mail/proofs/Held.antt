@@ -1,4 +1,4 @@
--- In how many places a buffer is held, as messages are queued, handed over, taken and let go.
+-- In how many places a buffer is held, as messages are queued, handed over, fetched and let go.
 -- Assumes nothing.
 use Prim.Native.Nat.{ℕ, _+_, _≤_, _<_}
 use mathlib.Core.Path.{_≡_, refl, sym, ap, _∙_}
@@ -36,9 +36,9 @@ module _ (box : ℕ → List Message) (hand : ℕ → Option Message) (b : ℕ) 
   held-given p x h e = omega (arith, held-hand box hand p (some x) b h, ap (λ (a : Option Message). occurs b (inHand a)) e)
 
   -- the first message of mailbox m goes into the empty hand of p
-  pub held-taken : (m p : ℕ) (x : Message) (l : List Message) → m < mailboxes → p < processes → box m ≡ x ∷ l → hand p ≡ none
+  pub held-fetched : (m p : ℕ) (x : Message) (l : List Message) → m < mailboxes → p < processes → box m ≡ x ∷ l → hand p ≡ none
       → held (put box m l) (put hand p (some x)) b ≡ held box hand b
-  held-taken m p x l hm hp e empty =
+  held-fetched m p x l hm hp e empty =
       omega (
         arith,
         held-hand (put box m l) hand p (some x) b hp,

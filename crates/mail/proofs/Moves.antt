@@ -1,6 +1,6 @@
 -- The mail that the struct carries after each change, where it carried some before.
 -- Assumes nothing.
-use Prim.Native.Nat.{ℕ, _+_, _<_}
+use Prim.Native.Nat.{ℕ, _+_, _≤_, _<_}
 use mathlib.Core.Path.{_≡_, refl, sym, ap, _∙_, subst}
 use mathlib.Core.Bool.{true, false, not}
 use mathlib.Core.Logic.{_≢_, ⊎-elim}
@@ -10,7 +10,7 @@ use native.Mathlib.Omega.{arith}
 use lib.ListN.{length, getD, set, length-set}
 use lib.Seq.{getD-set-same}
 use lib.Dec.{eqb}
-use borrow.Author.Tests.{eq-eqb, ne-eqb}
+use borrow.Author.Tests.{eq-eqb, ne-eqb, lt-ltb, le-ltb}
 use Rattle.lists.specs.Lists.{if_then_else_, put, one, occurs, without}
 use Rattle.lists.proofs.Laws as Laws
 use Rattle.lists.proofs.Laws.{le?, put-cases, one-same, one-other, taken-out}
@@ -22,14 +22,14 @@ use Rattle.rings.proofs.Laws.{once, one-queue}
 use Rattle.rings.proofs.Looks.{first-some, fresh-rings}
 use Rattle.rings.proofs.Moves.{rear, left}
 use Rattle.plain.specs.Sizes.{processes, mailboxes, buffers}
-use Rattle.plain.specs.State.{Message, lies, buffersOf, inHand, held}
-use Rattle.plain.specs.Calls.{isEmpty}
+use Rattle.plain.specs.State.{Message, State, lies, buffersOf, inHand, held}
+use Rattle.plain.specs.Calls.{isEmpty, deliver}
 use Rattle.plain.specs.Sound.{Mail}
 use Rattle.mail.specs.Carries.{Numbers, bufferIn, isFree, AsLong, LongInHand, Carries}
-use Rattle.mail.specs.Moves.{freshMail, filled, freed, given, emptied, queuedLast, handedOver, taken, letGo}
+use Rattle.mail.specs.Moves.{freshMail, filled, freed, given, emptied, queuedLast, handedOver, delivered, fetched, letGo}
 use Rattle.mail.proofs.Looks.{has-message, in-hand}
 use Rattle.plain_laws.proofs.Mail.{held-hand}
-use Rattle.mail.proofs.Held.{buffers-append, held-nowhere, held-queued, held-given, held-taken, not-queued, not-in-hand}
+use Rattle.mail.proofs.Held.{buffers-append, held-nowhere, held-queued, held-given, held-fetched, not-queued, not-in-hand}
 use Rattle.mail.proofs.Parts.{put-kept, buffers-put, hands-put, no-more-put, full-put, free-put, zeros-put, long-queue, long-hand, long-rear}
 
 pub fresh-carries : Carries freshMail (λ m. []) (λ p. none)
@@ -80,7 +80,7 @@ module _ {k : Numbers} {box : ℕ → List Message} {hand : ℕ → Option Messa
       unfolding filled
       free-bits = free-put box box′ hand hand′ b others false (ne-eqb (held box′ hand′ b) 0 (omega (arith, now-held))) (K .free)
 
-    pub queued-carries : (m : ℕ) → m < mailboxes → Carries (queuedLast k m b n) (put box m (box m ++ (x ∷ []))) hand
+    queued-carries : (m : ℕ) → m < mailboxes → Carries (queuedLast k m b n) (put box m (box m ++ (x ∷ []))) hand
     unfolding queuedLast filled
     queued-carries m hm =
         let l : List Message = box m ++ (x ∷ []) in
@@ -101,7 +101,7 @@ module _ {k : Numbers} {box : ℕ → List Message} {hand : ℕ → Option Messa
           free = free-bits (put box m l) hand more;
         }
 
-    pub handed-carries : (p : ℕ) → p < processes → hand p ≡ none → Carries (handedOver k p b n) box (put hand p (some x))
+    handed-carries : (p : ℕ) → p < processes → hand p ≡ none → Carries (handedOver k p b n) box (put hand p (some x))
     unfolding handedOver filled given
     handed-carries p hp empty =
         let more : (i : ℕ) → held box (put hand p (some x)) i ≡ held box hand i + occurs i (lies x) = λ i. held-given box hand i p x hp empty in
@@ -131,10 +131,10 @@ module _ {k : Numbers} {box : ℕ → List Message} {hand : ℕ → Option Messa
         λ i d. ⊎-elim (λ o. absurd (d (one-queue (K .boxes) i m b o (omega arith)))) (λ z. omega arith) (le? 1 (occurs b (buffersOf (box i)))) in
         taken-out b m (λ i. buffersOf (box i)) [] (buffersOf l) first-is refl (omega (arith, once (K .boxes) m b)) away ∙ buffers-put box m l
 
-    pub taken-carries : Carries (taken k m p) (put box m l) (put hand p (some x))
-    unfolding taken given
-    taken-carries =
-        let same : (i : ℕ) → held (put box m l) (put hand p (some x)) i ≡ held box hand i = λ i. held-taken box hand i m p x l hm hp e empty in
+    pub fetched-carries : Carries (fetched k m p) (put box m l) (put hand p (some x))
+    unfolding fetched given
+    fetched-carries =
+        let same : (i : ℕ) → held (put box m l) (put hand p (some x)) i ≡ held box hand i = λ i. held-fetched box hand i m p x l hm hp e empty in
         let was : AsLong (k .length) (x ∷ l) = subst (AsLong (k .length)) e (K .queued-lengths m) in
         rw (first-some (K .boxes) m (x .buffer) (buffersOf l) first-is .0)
         (record {
@@ -184,3 +184,13 @@ module _ {k : Numbers} {box : ℕ → List Message} {hand : ℕ → Option Messa
         go : (h : Option Message) → hand p ≡ h → Carries (if not (isEmpty h) then emptied (freed k (bufferIn h)) p else k) box (put hand p none)
         go none e = subst (Carries k box) (put-kept hand p none e) K
         go (some x) e = dropped x e
+
+-- w is the first of those who wait at mailbox m, with an empty hand, or no process where nobody waits: message x of n bytes, in buffer b, is delivered
+pub delivered-carries : {k : Numbers} (s : State) → Carries k (s .box) (s .hand) → (b n : ℕ) (x : Message) → b < buffers → held (s .box) (s .hand) b ≡ 0 → x .buffer ≡ b → length (x .bytes) ≡ n
+    → (m w : ℕ) (waiters : List ℕ) → m < mailboxes → (processes ≤ w → waiters ≡ []) → (w < processes → (l : List ℕ) × (waiters ≡ w ∷ l)) → (w < processes → s .hand w ≡ none)
+    → Carries (delivered k m w b n) (deliver m x waiters s .box) (deliver m x waiters s .hand)
+unfolding delivered
+delivered-carries s K b n x hb free is long m w waiters hm nobody first empty = ⊎-elim
+    (λ h. rw (le-ltb w processes h, nobody h) (queued-carries K b n x hb free is long m hm))
+    (λ h. rw (lt-ltb w processes h, first h .1) (handed-carries K b n x hb free is long w h (empty h)))
+    (le? processes w)

@@ -12,7 +12,7 @@ use Rattle.lists.specs.Lists.{occurs}
 use Rattle.lists.proofs.Laws.{same?, one-other, total-zero}
 use Rattle.rings.proofs.Laws.{found, one-table}
 use Rattle.rings.proofs.Units.{known}
-use Rattle.boxes.specs.declared.Bid.{Bid}
+use Rattle.sizes.specs.declared.Bid.{Bid}
 use Rattle.boxes.specs.Box.{num}
 use Rattle.boxes.proofs.Laws.{one-boxes}
 use Rattle.plain.specs.Sizes.{processes, mailboxes}

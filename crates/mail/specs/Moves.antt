@@ -1,8 +1,9 @@
--- What the struct becomes as messages are queued, taken and let go, and what is read off it, in its numbers.
+-- What the struct becomes as messages are delivered, fetched and let go, and what is read off it, in its numbers.
 -- Total: a mailbox, process or buffer number past the last leaves what it would change as it is. Assumes nothing.
 use Prim.Native.Nat.{ℕ}
 use mathlib.Core.Bool.{Bool, true, false}
 use lib.ListN.{getD, set, replicate}
+use lib.Dec.{ltb}
 use Rattle.lists.specs.Lists.{if_then_else_, put, lowest}
 use Rattle.bits.specs.Word.{width, word, bits}
 use Rattle.rings.specs.Ring.{Tables}
@@ -97,9 +98,13 @@ queuedLast k m b n = relinked (filled k b n) (joinRear buffers mailboxes (k .tab
 unfoldable pub handedOver : Numbers → ℕ → ℕ → ℕ → Numbers
 handedOver k p b n = given (filled k b n) p b
 
+-- buffer b takes a message of n bytes for mailbox m: w, the first who waits there, gets it in hand; where w is no process, it is queued last
+unfoldable pub delivered : Numbers → ℕ → ℕ → ℕ → ℕ → Numbers
+delivered k m w b n = if ltb w processes then handedOver k w b n else queuedLast k m b n
+
 -- the first message of mailbox m goes into the hand of process p
-unfoldable pub taken : Numbers → ℕ → ℕ → Numbers
-taken k m p =
+unfoldable pub fetched : Numbers → ℕ → ℕ → Numbers
+fetched k m p =
     let b : ℕ = first buffers mailboxes (k .tables) m in
     relinked (given k p b) (leave buffers mailboxes (k .tables) b)
 

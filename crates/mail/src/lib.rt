@@ -5,11 +5,12 @@ ghost use mathlib.Core.List.{map};
 ghost use lib.ListN.{getD, set};
 ghost use Rattle.boxes.specs.Box.{num};
 ghost use Rattle.mail.specs.Carries.{numbers};
-ghost use Rattle.mail.specs.Moves.{lowestFree, isFullBox, isEmptyBox, hasMessage, handAt, lengthInHand, firstLength, freshMail, filled, freed, given, emptied, queuedLast, handedOver, taken, letGo};
-use boxes::Bid;
+ghost use Rattle.mail.specs.Moves.{lowestFree, isFullBox, isEmptyBox, hasMessage, handAt, lengthInHand, firstLength, freshMail, filled, freed, given, emptied, queuedLast, handedOver, delivered, fetched, letGo};
 use boxes::Boxes;
+use sizes::Bid;
+use sizes::Pid;
 
-const PROCESSES: u32 = sizes::PROCESSES as u32;
+const PROCESSES: u8 = sizes::PROCESSES as u8;
 
 const BUFFERS: u8 = sizes::BUFFERS as u8;
 
@@ -27,22 +28,22 @@ pub struct Mail {
 }
 
 // The buffer in the hand of p, or 0 past the last hand.
-fn hand_of(hands: [Bid; sizes::PROCESSES], p: u32) -> Bid
-    ensures { λ r. ⌜ r .0 ≡ getD (map num hands) p 0 ⌝ }
+fn hand_of(hands: [Bid; sizes::PROCESSES], p: Pid) -> Bid
+    ensures { λ r. ⌜ r .0 ≡ getD (map num hands) (p .0) 0 ⌝ }
 {
-    if p < PROCESSES {
-        let i = p as usize;
+    if p.0 < PROCESSES {
+        let i = p.0 as usize;
         return hands[i];
     }
     Bid(0)
 }
 
 // The hands with b in that of p, or as they are past the last hand.
-fn with_hand(mut hands: [Bid; sizes::PROCESSES], p: u32, b: Bid) -> [Bid; sizes::PROCESSES]
-    ensures { λ r. ⌜ map num r ≡ set (map num hands) p (b .0) ⌝ }
+fn with_hand(mut hands: [Bid; sizes::PROCESSES], p: Pid, b: Bid) -> [Bid; sizes::PROCESSES]
+    ensures { λ r. ⌜ map num r ≡ set (map num hands) (p .0) (b .0) ⌝ }
 {
-    if p < PROCESSES {
-        let i = p as usize;
+    if p.0 < PROCESSES {
+        let i = p.0 as usize;
         hands[i] = b;
         return hands;
     }
@@ -111,23 +112,23 @@ impl Mail {
     }
 
     // Whether the hand of p is full.
-    pub fn has_message(self, p: u32) -> bool
-        ensures { λ r. ⌜ r ≡ hasMessage (numbers self) p ⌝ }
+    pub fn has_message(self, p: Pid) -> bool
+        ensures { λ r. ⌜ r ≡ hasMessage (numbers self) (p .0) ⌝ }
     {
-        bits::has_bit(self.full, p)
+        bits::has_bit(self.full, p.0 as u32)
     }
 
     // The buffer in the hand of p, or 0 where the hand is empty.
-    pub fn in_hand(self, p: u32) -> Bid
-        ensures { λ r. ⌜ r .0 ≡ handAt (numbers self) p ⌝ }
+    pub fn in_hand(self, p: Pid) -> Bid
+        ensures { λ r. ⌜ r .0 ≡ handAt (numbers self) (p .0) ⌝ }
     {
         let hands = self.hand;
         hand_of(hands, p)
     }
 
     // The length of the message in the hand of p, or 0 where the hand is empty.
-    pub fn length_in_hand(self, p: u32) -> u32
-        ensures { λ r. ⌜ r ≡ lengthInHand (numbers self) p ⌝ }
+    pub fn length_in_hand(self, p: Pid) -> u32
+        ensures { λ r. ⌜ r ≡ lengthInHand (numbers self) (p .0) ⌝ }
     {
         if !self.has_message(p) {
             return 0;
@@ -170,29 +171,29 @@ impl Mail {
     }
 
     // Buffer b goes into the hand of p.
-    fn give(mut self, p: u32, b: Bid) -> Mail
-        ensures { λ r. ⌜ numbers r ≡ given (numbers self) p (b .0) ⌝ }
+    fn give(mut self, p: Pid, b: Bid) -> Mail
+        ensures { λ r. ⌜ numbers r ≡ given (numbers self) (p .0) (b .0) ⌝ }
     {
         let old = self.hand;
         let hands = with_hand(old, p, b);
         self.hand = hands;
-        self.full = bits::with_bit(self.full, p);
+        self.full = bits::with_bit(self.full, p.0 as u32);
         self
     }
 
     // The hand of p becomes empty.
-    fn empty_hand(mut self, p: u32) -> Mail
-        ensures { λ r. ⌜ numbers r ≡ emptied (numbers self) p ⌝ }
+    fn empty_hand(mut self, p: Pid) -> Mail
+        ensures { λ r. ⌜ numbers r ≡ emptied (numbers self) (p .0) ⌝ }
     {
         let old = self.hand;
         let hands = with_hand(old, p, Bid(0));
         self.hand = hands;
-        self.full = bits::without_bit(self.full, p);
+        self.full = bits::without_bit(self.full, p.0 as u32);
         self
     }
 
     // Buffer b takes a message of n bytes and is queued last in mailbox m.
-    pub fn queue_last(self, m: u32, b: Bid, n: u16) -> Mail
+    fn queue_last(self, m: u32, b: Bid, n: u16) -> Mail
         ensures { λ r. ⌜ numbers r ≡ queuedLast (numbers self) m (b .0) n ⌝ }
     {
         let queues = self.boxes;
@@ -203,16 +204,27 @@ impl Mail {
     }
 
     // Buffer b takes a message of n bytes and goes into the hand of p.
-    pub fn hand_over(self, p: u32, b: Bid, n: u16) -> Mail
-        ensures { λ r. ⌜ numbers r ≡ handedOver (numbers self) p (b .0) n ⌝ }
+    fn hand_over(self, p: Pid, b: Bid, n: u16) -> Mail
+        ensures { λ r. ⌜ numbers r ≡ handedOver (numbers self) (p .0) (b .0) n ⌝ }
     {
         let next = self.fill(b, n);
         next.give(p, b)
     }
 
+    // Buffer b takes a message of n bytes for mailbox m: w, the first who waits there, gets it in hand; where w is no process, it is queued last.
+    pub fn deliver(self, m: u32, w: Pid, b: Bid, n: u16) -> Mail
+        ensures { λ r. ⌜ numbers r ≡ delivered (numbers self) m (w .0) (b .0) n ⌝ }
+    {
+        if w.0 < PROCESSES {
+            self.hand_over(w, b, n)
+        } else {
+            self.queue_last(m, b, n)
+        }
+    }
+
     // The first message of mailbox m goes into the hand of p.
-    pub fn take(self, m: u32, p: u32) -> Mail
-        ensures { λ r. ⌜ numbers r ≡ taken (numbers self) m p ⌝ }
+    pub fn fetch(self, m: u32, p: Pid) -> Mail
+        ensures { λ r. ⌜ numbers r ≡ fetched (numbers self) m (p .0) ⌝ }
     {
         let queues = self.boxes;
         let b = queues.first(m);
@@ -223,8 +235,8 @@ impl Mail {
     }
 
     // The buffer in the hand of p becomes free; nothing changes where the hand is empty.
-    pub fn let_go(self, p: u32) -> Mail
-        ensures { λ r. ⌜ numbers r ≡ letGo (numbers self) p ⌝ }
+    pub fn let_go(self, p: Pid) -> Mail
+        ensures { λ r. ⌜ numbers r ≡ letGo (numbers self) (p .0) ⌝ }
     {
         if !self.has_message(p) {
             return self;

@@ -8,7 +8,7 @@ use lib.ListN.{length}
 use lib.Dec.{ltb, leb, eqb}
 use Rattle.lists.specs.Lists.{if_then_else_}
 use Rattle.plain.specs.Sizes.{processes, classes, mailboxes, capacity, buffers, longest, semaphores, highestCount, atMailbox, atSemaphore}
-use Rattle.plain.specs.State.{Message, Procs, State, line, rank, left, move, give, fill, tally, unused, freeProcess, freeBuffer}
+use Rattle.plain.specs.State.{Message, Procs, State, level, line, rank, left, move, give, fill, score, unused, freeProcess, freeBuffer}
 use Rattle.plain.specs.Runs.{makeReady, goTo, halt}
 
 pub data Call : Type 0 where
@@ -67,32 +67,32 @@ bytesIn (some x) = x .bytes
 
 -- "the lowest unused number becomes a process and is made ready"
 abbrev pub created : ℕ → ℕ → State → State
-created p c s = move (makeReady p (rank p c (s .procs))) s
+created p c s = move (makeReady (s .settings .slice) p (rank p c (s .procs))) s
 
 -- "p leaves its place, its hand's buffer becomes free, its number unused. Choose if it ran."
 abbrev pub stopped : ℕ → State → State
 stopped p s = give p none (move (halt p (s .procs)) s)
 
 -- "the running process joins the rear of its class with 3 ticks; choose"
-abbrev pub yielded : Procs → Procs
-yielded r = goTo (r .class (r .running)) r
+abbrev pub yielded : ℕ → Procs → Procs
+yielded n r = goTo n (level r (r .running)) r
 
 -- "the running process changes class. Same class: nothing changes. Another: it joins the rear there with 3 ticks; choose."
-abbrev pub regraded : ℕ → Procs → Procs
-regraded c r = if eqb c (r .class (r .running)) then r else goTo c (rank (r .running) c r)
+abbrev pub regraded : ℕ → ℕ → Procs → Procs
+regraded n c r = if eqb c (r .class (r .running)) then r else goTo n c (rank (r .running) c r)
 
 -- the running process has t ticks left; "at none left, as yield"
-abbrev pub spent : ℕ → Procs → Procs
-spent zero r = yielded r
-spent (suc t) r = left (r .running) (suc t) r
+abbrev pub spent : ℕ → ℕ → Procs → Procs
+spent n zero r = yielded n r
+spent n (suc t) r = left (r .running) (suc t) r
 
 -- "0 running, nothing changes. Otherwise one tick less"
-abbrev pub ticked : Procs → Procs
-ticked r = if eqb (r .running) 0 then r else spent (r .ticks (r .running) - 1) r
+abbrev pub ticked : ℕ → Procs → Procs
+ticked n r = if eqb (r .running) 0 then r else spent n (r .ticks (r .running) - 1) r
 
 -- w, the first of queue q before the others in l, leaves it and is made ready
 abbrev pub woken : ℕ → ℕ → List ℕ → State → State
-woken q w l s = move (makeReady w (line q l (s .procs))) s
+woken q w l s = move (makeReady (s .settings .slice) w (line q l (s .procs))) s
 
 -- "If someone waits at m, the first waiter gets it in hand and is made ready; else it is queued last in m."
 abbrev pub deliver : ℕ → Message → List ℕ → State → State
@@ -101,7 +101,7 @@ deliver m x (w ∷ l) s = give w (some x) (woken (atMailbox m) w l s)
 
 -- "the caller joins the rear of the waiters; choose; answer 32"
 abbrev pub waitAt : ℕ → State → Outcome
-waitAt q s = waits (move (goTo q (s .procs)) s)
+waitAt q s = waits (move (goTo (s .settings .slice) q (s .procs)) s)
 
 -- "the first message of m goes into the caller's hand, number answered: its length. If m is empty the caller joins the rear of its waiters"
 abbrev pub fetch : ℕ → List Message → State → Outcome
@@ -110,27 +110,27 @@ fetch m (x ∷ l) s = done (length (x .bytes)) (give (caller s) (some x) (fill m
 
 -- "the first waiter is made ready; with no waiter the count goes up by 1"
 abbrev pub wake : ℕ → List ℕ → State → State
-wake k [] s = tally k (s .count k + 1) s
+wake k [] s = score k (s .count k + 1) s
 wake k (w ∷ l) s = woken (atSemaphore k) w l s
 
 -- "the count goes down by 1; at 0 the caller joins the rear of the waiters"
-abbrev pub lower : ℕ → ℕ → State → Outcome
-lower k zero s = waitAt (atSemaphore k) s
-lower k (suc n) s = done 0 (tally k n s)
+abbrev pub claim : ℕ → ℕ → State → Outcome
+claim k zero s = waitAt (atSemaphore k) s
+claim k (suc n) s = done 0 (score k n s)
 
 unfoldable pub perform : State → Call → Outcome
 perform s (create c) = let p : ℕ = freeProcess (s .procs) in done p (created p c s)
 perform s (stop p) = done 0 (stopped p s)
 perform s end = done 0 (stopped (caller s) s)
-perform s yield = done 0 (move (yielded (s .procs)) s)
-perform s (class c) = done 0 (move (regraded c (s .procs)) s)
-perform s tick = done 0 (move (ticked (s .procs)) s)
+perform s yield = done 0 (move (yielded (s .settings .slice) (s .procs)) s)
+perform s (class c) = done 0 (move (regraded (s .settings .slice) c (s .procs)) s)
+perform s tick = done 0 (move (ticked (s .settings .slice) (s .procs)) s)
 perform s (send m b) = done 0 (deliver m (record { buffer = freeBuffer s; bytes = b }) (s .procs .queue (atMailbox m)) s)
 perform s (receive m) = fetch m (s .box m) s
 perform s (read room) = answering 0 (length (bytesIn (hand s))) (bytesIn (hand s)) s
 perform s release = done 0 (give (caller s) none s)
 perform s (signal k) = done 0 (wake k (s .procs .queue (atSemaphore k)) s)
-perform s (wait k) = lower k (s .count k) s
+perform s (wait k) = claim k (s .count k) s
 
 -- ---- what is refused: each call's refusals in the paper's order, each with its code, its number, and whether it holds
 -- 14 and 15 are judged before these and belong to the code: a plain state is sound if calls led to it, and its messages carry their own bytes.

@@ -8,7 +8,7 @@ use mathlib.Core.Option.{Option, none, some}
 use lib.ListN.{length}
 use Rattle.lists.specs.Lists.{occurs}
 use Rattle.plain.specs.Sizes.{processes, classes, mailboxes, capacity, buffers, longest, semaphores, highestCount, slice, atMailbox, atSemaphore, queues}
-use Rattle.plain.specs.State.{Message, Procs, State, places, held}
+use Rattle.plain.specs.State.{Message, Procs, Settings, State, level, places, held}
 
 -- p stands in queue q; who stands in none and does not run is unused
 abbrev pub In : Procs → ℕ → ℕ → Type 0
@@ -26,11 +26,15 @@ abbrev pub Short : Option Message → Type 0
 Short none = Unit {0}
 Short (some x) = length (x .bytes) ≤ longest
 
+-- "Slice: 3 ticks"
+pub record Set (settings : Settings) : Type 0 where
+  pub three-ticks : settings .slice ≡ slice
+
 -- The processes, `slice` ticks to a slice. What is said of the runner says nothing where 0 runs, so it also holds midway in a call, before one is chosen.
 pub record Seated (slice : ℕ) (s : Procs) : Type 0 where
   -- "Each process 1 to 31 is in exactly one place: unused, running, ready in the queue of its own class, waiting at one mailbox, or waiting at one semaphore."
   pub one-place : (p : ℕ) → 1 ≤ p → places s p ≤ 1
-  pub own-class : (c p : ℕ) → c < classes → In s c p → s .class p ≡ c
+  pub own-class : (c p : ℕ) → c < classes → In s c p → level s p ≡ c
   -- "0 is the null process, never unused, never on a queue"; numbers from 32 on are nobody's
   pub null-nowhere : (q : ℕ) → occurs 0 (s .queue q) ≡ 0
   pub nobody-else : (p : ℕ) → processes ≤ p → places s p ≡ 0
@@ -47,7 +51,7 @@ pub record Seated (slice : ℕ) (s : Procs) : Type 0 where
 
 -- "If a process other than 0 runs, no queue of a higher class has anyone. If 0 runs, all five queues are empty."
 abbrev pub Highest : Procs → Type 0
-Highest s = (c : ℕ) → c < classes → (s .running ≢ 0 → s .class (s .running) < c) → s .queue c ≡ []
+Highest s = (c : ℕ) → c < classes → (s .running ≢ 0 → level s (s .running) < c) → s .queue c ≡ []
 
 pub record Mail (box : ℕ → List Message) (hand : ℕ → Option Message) : Type 0 where
   -- "Each buffer is free, queued in one mailbox, or in the hand of one process; the three groups together are the 32 buffers, none twice."
@@ -60,17 +64,27 @@ pub record Mail (box : ℕ → List Message) (hand : ℕ → Option Message) : T
   pub at-most : (m : ℕ) → length (box m) ≤ capacity
   pub no-more-boxes : (m : ℕ) → mailboxes ≤ m → box m ≡ []
 
+-- "Unused processes, process 0 and mailbox waiters have empty hands."
+pub record Hands (s : Procs) (hand : ℕ → Option Message) : Type 0 where
+  pub unused : (p : ℕ) → places s p ≡ 0 → hand p ≡ none
+  pub null : hand 0 ≡ none
+  pub waiters : (m p : ℕ) → m < mailboxes → In s (atMailbox m) p → hand p ≡ none
+
+-- ".. and none where a process waits. A semaphore where a process waits counts 0."
+pub record Waits (s : Procs) (box : ℕ → List Message) (count : ℕ → ℕ) : Type 0 where
+  pub boxes : (m p : ℕ) → m < mailboxes → In s (atMailbox m) p → box m ≡ []
+  pub counts : (k p : ℕ) → k < semaphores → In s (atSemaphore k) p → count k ≡ 0
+
+-- "Semaphores: 0 to 15, count 0 to 65,535"
+pub record Counts (count : ℕ → ℕ) : Type 0 where
+  pub most : (k : ℕ) → count k ≤ highestCount
+  pub no-more : (k : ℕ) → semaphores ≤ k → count k ≡ 0
+
 pub record Sound (s : State) : Type 0 where
-  pub seated : Seated slice (s .procs)
+  pub settings : Set (s .settings)
+  pub seated : Seated (s .settings .slice) (s .procs)
   pub highest : Highest (s .procs)
   pub mail : Mail (s .box) (s .hand)
-  -- "Unused processes, process 0 and mailbox waiters have empty hands."
-  pub unused-hands : (p : ℕ) → places (s .procs) p ≡ 0 → s .hand p ≡ none
-  pub null-hand : s .hand 0 ≡ none
-  pub waiter-hands : (m p : ℕ) → m < mailboxes → In (s .procs) (atMailbox m) p → s .hand p ≡ none
-  -- ".. and none where a process waits. A semaphore where a process waits counts 0."
-  pub box-waits : (m p : ℕ) → m < mailboxes → In (s .procs) (atMailbox m) p → s .box m ≡ []
-  pub count-waits : (k p : ℕ) → k < semaphores → In (s .procs) (atSemaphore k) p → s .count k ≡ 0
-  -- "Semaphores: 0 to 15, count 0 to 65,535"
-  pub counts : (k : ℕ) → s .count k ≤ highestCount
-  pub no-more-counts : (k : ℕ) → semaphores ≤ k → s .count k ≡ 0
+  pub hands : Hands (s .procs) (s .hand)
+  pub waits : Waits (s .procs) (s .box) (s .count)
+  pub counts : Counts (s .count)

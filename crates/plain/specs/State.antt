@@ -6,7 +6,7 @@ use mathlib.Core.List.{List, [], _∷_, _++_}
 use mathlib.Core.Option.{Option, none, some}
 use lib.Dec.{eqb}
 use Rattle.lists.specs.Lists.{put, total, one, occurs, lowest}
-use Rattle.plain.specs.Sizes.{processes, mailboxes, buffers, queues}
+use Rattle.plain.specs.Sizes.{processes, mailboxes, buffers, slice, queues}
 
 -- A message, queued or in a hand: the buffer that took it, and its bytes.
 pub record Message : Type 0 where
@@ -20,12 +20,17 @@ pub record Procs : Type 0 where
   pub class : ℕ → ℕ
   pub ticks : ℕ → ℕ
 
+-- What is set at the fresh start.
+pub record Settings : Type 0 where
+  pub slice : ℕ
+
 -- And each process's hand, each mailbox's messages from first to last, each semaphore's count.
 pub record State : Type 0 where
   pub procs : Procs
   pub hand : ℕ → Option Message
   pub box : ℕ → List Message
   pub count : ℕ → ℕ
+  pub settings : Settings
 
 -- "A fresh kernel: 0 runs, the others unused, all queues and mailboxes empty, all counts 0."
 abbrev pub fresh : State
@@ -34,7 +39,12 @@ fresh = record {
   hand = λ p. none;
   box = λ m. [];
   count = λ k. 0;
+  settings = record { slice = slice };
 }
+
+-- the class by which p is queued and compared
+abbrev pub level : Procs → ℕ → ℕ
+level s p = s .class p
 
 -- ---- the state with one thing changed
 
@@ -60,19 +70,19 @@ left p t s = record { running = s .running; queue = s .queue; class = s .class; 
 
 -- the processes stand as in r
 abbrev pub move : Procs → State → State
-move r s = record { procs = r; hand = s .hand; box = s .box; count = s .count }
+move r s = record { procs = r; hand = s .hand; box = s .box; count = s .count; settings = s .settings }
 
 -- p has h in hand
 abbrev pub give : ℕ → Option Message → State → State
-give p h s = record { procs = s .procs; hand = put (s .hand) p h; box = s .box; count = s .count }
+give p h s = record { procs = s .procs; hand = put (s .hand) p h; box = s .box; count = s .count; settings = s .settings }
 
 -- mailbox m holds l
 abbrev pub fill : ℕ → List Message → State → State
-fill m l s = record { procs = s .procs; hand = s .hand; box = put (s .box) m l; count = s .count }
+fill m l s = record { procs = s .procs; hand = s .hand; box = put (s .box) m l; count = s .count; settings = s .settings }
 
 -- semaphore k counts n
-abbrev pub tally : ℕ → ℕ → State → State
-tally k n s = record { procs = s .procs; hand = s .hand; box = s .box; count = put (s .count) k n }
+abbrev pub score : ℕ → ℕ → State → State
+score k n s = record { procs = s .procs; hand = s .hand; box = s .box; count = put (s .count) k n; settings = s .settings }
 
 -- ---- who stands where: unused and free are those who stand nowhere
 

@@ -11,7 +11,7 @@ use borrow.Author.Tests.{eq-eqb, ne-eqb}
 use Rattle.lists.specs.Lists.{put, one, occurs, without}
 use Rattle.lists.proofs.Laws.{same?, put-same, put-other, one-same, one-other, occurs-without-same}
 use Rattle.plain.specs.Sizes.{classes}
-use Rattle.plain.specs.State.{Procs}
+use Rattle.plain.specs.State.{Procs, level}
 use Rattle.plain.specs.Runs.{choose, standDown}
 use Rattle.plain.specs.Sound.{Seated}
 use Rattle.plain_laws.specs.Moves.{settle}
@@ -62,17 +62,17 @@ left-behind x p y l d a = (
 
 -- ---- who runs as one of p's class
 
-pub duty-on : (s : Procs) (p x : ℕ) → s .running ≢ 0 → s .class (s .running) ≡ s .class p → onDuty s p x ≡ eqb (s .running) x
+pub duty-on : (s : Procs) (p x : ℕ) → s .running ≢ 0 → level s (s .running) ≡ level s p → onDuty s p x ≡ eqb (s .running) x
 duty-on s p x z c = ⊎-elim
-    (λ (e : x ≡ s .running). rw (e, eq-eqb (s .running) (s .running) refl, ne-eqb (s .running) 0 z, eq-eqb (s .class (s .running)) (s .class p) c) refl)
+    (λ (e : x ≡ s .running). rw (e, eq-eqb (s .running) (s .running) refl, ne-eqb (s .running) 0 z, eq-eqb (level s (s .running)) (level s p) c) refl)
     (λ (d : x ≢ s .running). rw (ne-eqb x (s .running) d, ne-eqb (s .running) x (λ e. d (sym e))) refl)
     (same? x (s .running))
 
-pub duty-off : (s : Procs) (p x : ℕ) → (s .running ≢ 0 → s .class (s .running) ≢ s .class p) → onDuty s p x ≡ false
+pub duty-off : (s : Procs) (p x : ℕ) → (s .running ≢ 0 → level s (s .running) ≢ level s p) → onDuty s p x ≡ false
 duty-off s p x h = ⊎-elim
     (λ (e : x ≡ s .running). rw (e, eq-eqb (s .running) (s .running) refl) (⊎-elim
     (λ (z : s .running ≡ 0). rw (eq-eqb (s .running) 0 z) refl)
-    (λ (z : s .running ≢ 0). rw (ne-eqb (s .running) 0 z, ne-eqb (s .class (s .running)) (s .class p) (h z)) refl)
+    (λ (z : s .running ≢ 0). rw (ne-eqb (s .running) 0 z, ne-eqb (level s (s .running)) (level s p) (h z)) refl)
     (same? (s .running) 0)))
     (λ (d : x ≢ s .running). rw (ne-eqb x (s .running) d) refl)
     (same? x (s .running))
@@ -91,27 +91,27 @@ module _ (n p : ℕ) (s : Procs) (k : Seated n s) (o : Ready s p) where
       (λ (z : s .running ≡ 0). rw (down-idle s z) (record { class = refl; ticks = refl; ready = o; same = λ x. refl }))
       (λ (z : s .running ≢ 0). rw (down-front s z) (
       let r : ℕ = s .running in
-      let l : List ℕ = r ∷ s .queue (s .class r) in
+      let l : List ℕ = r ∷ s .queue (level s r) in
       let idle : (x : ℕ) → onDuty (record { running = 0; queue = s .queue; class = s .class; ticks = s .ticks }) p x ≡ false =
       λ x. duty-off (record { running = 0; queue = s .queue; class = s .class; ticks = s .ticks }) p x (λ b. absurd (b refl)) in
       ⊎-elim
-      (λ (e : s .class r ≡ s .class p).
-      let front : put (s .queue) (s .class r) l (s .class p) ≡ r ∷ s .queue (s .class p) = rw e (put-same (s .queue) (s .class p) (r ∷ s .queue (s .class p))) in
+      (λ (e : level s r ≡ level s p).
+      let front : put (s .queue) (level s r) l (level s p) ≡ r ∷ s .queue (level s p) = rw e (put-same (s .queue) (level s p) (r ∷ s .queue (level s p))) in
       record {
         class = refl;
         ticks = refl;
         ready = subst (λ (a : List ℕ). 1 ≤ occurs p a) (sym front) (omega arith);
-        same = λ x. rw (idle x, front, duty-on s p x z e) (leads-front x p r (s .queue (s .class p)) d);
+        same = λ x. rw (idle x, front, duty-on s p x z e) (leads-front x p r (s .queue (level s p)) d);
       })
-      (λ (e : s .class r ≢ s .class p).
-      let there : put (s .queue) (s .class r) l (s .class p) ≡ s .queue (s .class p) = put-other (s .queue) (s .class r) l (s .class p) (λ i. e (sym i)) in
+      (λ (e : level s r ≢ level s p).
+      let there : put (s .queue) (level s r) l (level s p) ≡ s .queue (level s p) = put-other (s .queue) (level s r) l (level s p) (λ i. e (sym i)) in
       record {
         class = refl;
         ticks = refl;
         ready = subst (λ (a : List ℕ). 1 ≤ occurs p a) (sym there) o;
         same = λ x. rw (idle x, there, duty-off s p x (λ b. e)) refl;
       })
-      (same? (s .class r) (s .class p))))
+      (same? (level s r) (level s p))))
       (same? (s .running) 0)
 
   choose-alike : s .running ≡ 0 → ((choose s) .running ≡ p) ⊎ Alike p s (choose s)
@@ -121,29 +121,29 @@ module _ (n p : ℕ) (s : Procs) (k : Seated n s) (o : Ready s p) where
       (λ (d : pk .w ≢ p). inr (
       let here = head-in n s k (pk .c) (pk .w) (pk .l) (pk .stood) in
       let who = member n s k (pk .c) (pk .w) here in
-      let own : s .class (pk .w) ≡ pk .c = k .own-class (pk .c) (pk .w) (pk .below) here in
+      let own : level s (pk .w) ≡ pk .c = k .own-class (pk .c) (pk .w) (pk .below) here in
       let s′ : Procs = record { running = pk .w; queue = put (s .queue) (pk .c) (pk .l); class = s .class; ticks = s .ticks } in
       ⊎-elim
-      (λ (e : pk .c ≡ s .class p).
-      let was : s .queue (s .class p) ≡ pk .w ∷ pk .l = ap (s .queue) (sym e) ∙ pk .stood in
-      let there : put (s .queue) (pk .c) (pk .l) (s .class p) ≡ pk .l = ap (put (s .queue) (pk .c) (pk .l)) (sym e) ∙ put-same (s .queue) (pk .c) (pk .l) in
+      (λ (e : pk .c ≡ level s p).
+      let was : s .queue (level s p) ≡ pk .w ∷ pk .l = ap (s .queue) (sym e) ∙ pk .stood in
+      let there : put (s .queue) (pk .c) (pk .l) (level s p) ≡ pk .l = ap (put (s .queue) (pk .c) (pk .l)) (sym e) ∙ put-same (s .queue) (pk .c) (pk .l) in
       record {
         class = refl;
         ticks = refl;
         ready = subst (λ (a : List ℕ). 1 ≤ occurs p a) (sym there) (omega (arith, ap (occurs p) was, one-other (pk .w) p d));
         same = λ x. rw (duty-on s′ p x (λ b. omega (arith, who .0)) (own ∙ e), there, duty-off s p x (λ b. absurd (b z)), was) (sym (leads-front x p (pk .w) (pk .l) d));
       })
-      (λ (e : pk .c ≢ s .class p).
-      let there : put (s .queue) (pk .c) (pk .l) (s .class p) ≡ s .queue (s .class p) = put-other (s .queue) (pk .c) (pk .l) (s .class p) (λ i. e (sym i)) in
+      (λ (e : pk .c ≢ level s p).
+      let there : put (s .queue) (pk .c) (pk .l) (level s p) ≡ s .queue (level s p) = put-other (s .queue) (pk .c) (pk .l) (level s p) (λ i. e (sym i)) in
       record {
         class = refl;
         ticks = refl;
         ready = subst (λ (a : List ℕ). 1 ≤ occurs p a) (sym there) o;
         same = λ x. rw (duty-off s′ p x (λ b i. e (sym own ∙ i)), there, duty-off s p x (λ b. absurd (b z))) refl;
       })
-      (same? (pk .c) (s .class p))))
+      (same? (pk .c) (level s p))))
       (same? (pk .w) p)))
-      (λ (rs : Rests classes s (choose s)). absurd (omega (arith, ap (occurs p) (rs .nobody (s .class p) (k .in-class p)))))
+      (λ (rs : Rests classes s (choose s)). absurd (omega (arith, ap (occurs p) (rs .nobody (level s p) (k .in-class p)))))
       (choice s)
 
 pub settle-alike : (n p : ℕ) (s : Procs) → Seated n s → Ready s p → s .running ≢ p → ((settle s) .running ≡ p) ⊎ Alike p s (settle s)

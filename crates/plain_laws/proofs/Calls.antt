@@ -1,27 +1,27 @@
--- Every accepted call is a move of one process, then settling who runs.
+-- The moves of each accepted call, and that settling then says who runs.
 -- Assumes nothing.
 use Prim.Native.Nat.{ℕ, zero, suc, _-_, _≤_, _<_}
 use mathlib.Core.Path.{_≡_, refl, sym, ap, _∙_, subst, fun-ext}
 use mathlib.Core.Bool.{true, false, _||_}
-use mathlib.Core.Logic.{_≢_, _⊎_, inl, inr, ⊎-elim}
+use mathlib.Core.Logic.{_≢_, ⊎-elim}
 use mathlib.Core.List.{List, [], _∷_, _++_}
 use native.Mathlib.Omega.{arith}
 use lib.Dec.{ltb, leb, eqb}
 use borrow.Author.Tests.{ltb-true, ltb-false, leb-false, eqb-true, eqb-false, eq-eqb, ne-eqb}
 use Rattle.lists.specs.Lists.{put, occurs, without, lowest}
 use Rattle.lists.proofs.Laws.{either, or-false, same?, put-same, put-other, put-cases, one-same, one-other, without-absent, taken-out, lowest-passes}
-use Rattle.plain.specs.Sizes.{processes, classes, mailboxes, semaphores, queues, slice, atMailbox, atSemaphore}
-use Rattle.plain.specs.State.{Message, Procs, State, run, lines, line, rank, left, places, unused, freeProcess, freeBuffer}
+use Rattle.plain.specs.Sizes.{processes, classes, queues}
+use Rattle.plain.specs.State.{Procs, State, level, run, lines, line, rank, left, places, unused, freeProcess}
 use Rattle.plain.specs.Runs.{choose, standDown, join, pick, makeReady, goTo, remove, halt}
-use Rattle.plain.specs.Calls.{Call, create, stop, end, yield, class, tick, send, receive, read, release, signal, wait, Outcome, Refusal, perform, refusals, judge, step, yielded, regraded, spent, ticked, deliver, fetch, wake, lower}
+use Rattle.plain.specs.Calls.{Outcome, Refusal, judge, yielded, regraded, spent, ticked}
 use Rattle.plain.specs.Sound.{Seated, Highest, Sound, In}
 use Rattle.plain_laws.specs.Moves.{rid, leave, toRear, settle, Away, stay, spend, again, rear, pause}
 use Rattle.plain_laws.specs.Moves
-use Rattle.plain_laws.specs.History.{Passed, kind, isTick, as-one}
+use Rattle.plain_laws.specs.History.{Passed}
 use Rattle.plain_laws.proofs.Places.{runs-once}
 use Rattle.plain_laws.proofs.Seats.{member, head-in, runner-away, runner-range, one-queue, queue-once, queued-rests, nowhere}
 use Rattle.plain_laws.proofs.Settle.{choose-is, down-idle, down-front, settle-still}
-use Rattle.plain_laws.proofs.Frames.{Nowhere, Nobody, rear-framed, class-framed, gone-framed, same-framed, Moved, Shifted, shift}
+use Rattle.plain_laws.proofs.Frames.{slice-some, Nowhere, Nobody, rear-framed, class-framed, gone-framed, same-framed, only, Shifted, shift}
 
 -- what holds of the state if the call is refused, and of the call's own result if it is not
 pub judged : (P : State → Type 0) (rs : List Refusal) (s : State) (o : Outcome) → P s → (Passed rs → P (o .next)) → P ((judge rs s o) .next)
@@ -48,11 +48,11 @@ absent : (p : ℕ) (s : Procs) → ((q : ℕ) → occurs p (s .queue q) ≡ 0) �
 absent p s h = fun-ext (λ i. without-absent p (s .queue i) (h i))
 
 -- the running process joins the rear of queue q as one of class c; choose
-pub goTo-settles : (q c : ℕ) (s : Procs) → ((i : ℕ) → occurs (s .running) (s .queue i) ≡ 0) → goTo q (rank (s .running) c s) ≡ settle (toRear q (s .running) c slice s)
+pub goTo-settles : (n q c : ℕ) (s : Procs) → ((i : ℕ) → occurs (s .running) (s .queue i) ≡ 0) → goTo n q (rank (s .running) c s) ≡ settle (toRear q (s .running) c n s)
 unfolding goTo settle join
-goTo-settles q c s h =
-    rw (rear-from q (s .running) c slice s (s .queue) (absent (s .running) s h), eq-eqb (s .running) (s .running) refl)
-    (ap choose (sym (down-idle (run 0 (left (s .running) slice (line q (s .queue q ++ (s .running ∷ [])) (rank (s .running) c s)))) refl)))
+goTo-settles n q c s h =
+    rw (rear-from q (s .running) c n s (s .queue) (absent (s .running) s h), eq-eqb (s .running) (s .running) refl)
+    (ap choose (sym (down-idle (run 0 (left (s .running) n (line q (s .queue q ++ (s .running ∷ [])) (rank (s .running) c s)))) refl)))
 
 rank-own : (p : ℕ) (s : Procs) → rank p (s .class p) s ≡ s
 rank-own p s = ap (λ (f : ℕ → ℕ). record { running = s .running; queue = s .queue; class = f; ticks = s .ticks }) (put-own (s .class) p)
@@ -65,12 +65,12 @@ pick-chosen p c s hc e hi away =
     ap (λ (f : ℕ → List ℕ). run p (lines f s)) same ∙ sym (choose-is s c p [] hc e hi)
 
 -- "p is then chosen": to make p ready, who stands nowhere, is to let it join its class and settle
-module _ (p : ℕ) (s : Procs) (cls : (x : ℕ) → s .class x < classes) (hi : Highest s) (away : (q : ℕ) → occurs p (s .queue q) ≡ 0) (rests : s .running ≢ p) where
+module _ (n p : ℕ) (s : Procs) (cls : (x : ℕ) → level s x < classes) (hi : Highest s) (away : (q : ℕ) → occurs p (s .queue q) ≡ 0) (rests : s .running ≢ p) where
   abbrev c : ℕ
-  c = s .class p
+  c = level s p
 
   abbrev joined : Procs
-  joined = left p slice (line c (s .queue c ++ (p ∷ [])) s)
+  joined = left p n (line c (s .queue c ++ (p ∷ [])) s)
 
   alone : s .queue c ≡ [] → joined .queue c ≡ p ∷ []
   alone e = put-same (s .queue) c (s .queue c ++ (p ∷ [])) ∙ ap (λ (l : List ℕ). l ++ (p ∷ [])) e
@@ -83,10 +83,10 @@ module _ (p : ℕ) (s : Procs) (cls : (x : ℕ) → s .class x < classes) (hi : 
       let none : (d : ℕ) → d < classes → s .queue d ≡ [] = λ d h. hi d h (λ b. absurd (b z)) in
       rw (down-idle joined z) (pick-chosen p c joined (cls p) (alone (none c (cls p))) (λ d b h. elsewhere d (omega arith) ∙ none d h) (λ q d. ap (occurs p) (elsewhere q d) ∙ away q))
 
-  when-above : s .running ≢ 0 → s .class (s .running) < c → pick p (standDown joined) ≡ choose (standDown joined)
+  when-above : s .running ≢ 0 → level s (s .running) < c → pick p (standDown joined) ≡ choose (standDown joined)
   when-above z up =
       let r : ℕ = s .running in
-      let e : ℕ = s .class r in
+      let e : ℕ = level s r in
       let l : List ℕ = r ∷ joined .queue e in
       let down : Procs = run 0 (line e l joined) in
       let none : (d : ℕ) → c < suc d → d < classes → s .queue d ≡ [] = λ d b h. hi d h (λ y. omega arith) in
@@ -98,44 +98,44 @@ module _ (p : ℕ) (s : Procs) (cls : (x : ℕ) → s .class x < classes) (hi : 
       (λ b. omega (arith, one-other r p rests, ap (occurs p) (elsewhere e (omega arith)), away e))
       (λ b. ap (occurs p) (elsewhere q d) ∙ away q)))
 
-  when-below : s .running ≢ 0 → c ≤ s .class (s .running) → joined ≡ choose (standDown joined)
+  when-below : s .running ≢ 0 → c ≤ level s (s .running) → joined ≡ choose (standDown joined)
   when-below z low = sym (unfold settle in settle-still joined cls (λ d h up. let b = up z in elsewhere d (omega arith) ∙ hi d h up))
 
-  pub ready-settles : makeReady p s ≡ settle (join c p s)
+  pub ready-settles : makeReady n p s ≡ settle (join n c p s)
   unfolding makeReady settle join
   ready-settles = ⊎-elim
       (λ (z : s .running ≡ 0). rw (eq-eqb (s .running) 0 z) (when-idle z))
       (λ (z : s .running ≢ 0). rw (ne-eqb (s .running) 0 z) (⊎-elim
-      (λ (e : ltb (s .class (s .running)) c ≡ true). rw e (when-above z (ltb-true (s .class (s .running)) c e)))
-      (λ (e : ltb (s .class (s .running)) c ≡ false). rw e (when-below z (ltb-false (s .class (s .running)) c e)))
-      (either (ltb (s .class (s .running)) c))))
+      (λ (e : ltb (level s (s .running)) c ≡ true). rw e (when-above z (ltb-true (level s (s .running)) c e)))
+      (λ (e : ltb (level s (s .running)) c ≡ false). rw e (when-below z (ltb-false (level s (s .running)) c e)))
+      (either (ltb (level s (s .running)) c))))
       (same? (s .running) 0)
 
 -- ---- each call's own move, in a sound state
 
-module _ (s : Procs) (k : Seated slice s) (hi : Highest s) where
+module _ (n : ℕ) (s : Procs) (k : Seated n s) (hi : Highest s) where
   -- p, who stands nowhere, becomes a process of class c and is made ready
-  pub create-settles : (p c : ℕ) → places s p ≡ 0 → c < classes → makeReady p (rank p c s) ≡ settle (toRear c p c slice s)
+  pub create-settles : (p c : ℕ) → places s p ≡ 0 → c < classes → makeReady n p (rank p c s) ≡ settle (toRear c p c n s)
   unfolding join
   create-settles p c free hc =
       let rests : s .running ≢ p = λ e. omega (arith, runs-once s, ap (places s) e) in
-      let away : (q : ℕ) → occurs p (s .queue q) ≡ 0 = λ q. nowhere slice s k p q free in
-      ready-settles p (rank p c s) (λ x. put-cases (λ (a : ℕ). a < classes) (s .class) p c x (λ e. hc) (λ d. k .in-class x))
+      let away : (q : ℕ) → occurs p (s .queue q) ≡ 0 = λ q. nowhere n s k p q free in
+      ready-settles n p (rank p c s) (λ x. put-cases (λ (a : ℕ). a < classes) (s .class) p c x (λ e. hc) (λ d. k .in-class x))
       (λ d h up. hi d h (λ z. subst (λ (a : ℕ). a < d) (put-other (s .class) p c (s .running) rests) (up z))) away rests
-      ∙ ap settle (rw (put-same (s .class) p c, rear-from c p c slice s (s .queue) (absent p s away), ne-eqb (s .running) p rests) refl)
+      ∙ ap settle (rw (put-same (s .class) p c, rear-from c p c n s (s .queue) (absent p s away), ne-eqb (s .running) p rests) refl)
 
   -- w, the first of those who wait at queue q, is made ready
-  pub wake-settles : (q w : ℕ) (l : List ℕ) → classes ≤ q → s .queue q ≡ w ∷ l → makeReady w (line q l s) ≡ settle (toRear (s .class w) w (s .class w) slice s)
+  pub wake-settles : (q w : ℕ) (l : List ℕ) → classes ≤ q → s .queue q ≡ w ∷ l → makeReady n w (line q l s) ≡ settle (toRear (level s w) w (s .class w) n s)
   unfolding join
   wake-settles q w l hq e =
-      let here : In s q w = head-in slice s k q w l e in
-      let rests : s .running ≢ w = queued-rests slice s k q w here in
-      let once : occurs w l ≡ 0 = omega (arith, ap (occurs w) e, one-same w, queue-once slice s k q w here) in
-      let other : (i : ℕ) → i ≢ q → occurs w (s .queue i) ≡ 0 = λ i d. one-queue slice s k q i w here d in
+      let here : In s q w = head-in n s k q w l e in
+      let rests : s .running ≢ w = queued-rests n s k q w here in
+      let once : occurs w l ≡ 0 = omega (arith, ap (occurs w) e, one-same w, queue-once n s k q w here) in
+      let other : (i : ℕ) → i ≢ q → occurs w (s .queue i) ≡ 0 = λ i d. one-queue n s k q i w here d in
       let without-w : _≡_ {A = ℕ → List ℕ} (λ i. without w (s .queue i)) (put (s .queue) q l) = taken-out w q (s .queue) [] l e refl once other in
-      ready-settles w (line q l s) (k .in-class) (λ d h up. put-other (s .queue) q l d (omega arith) ∙ hi d h up)
+      ready-settles n w (line q l s) (k .in-class) (λ d h up. put-other (s .queue) q l d (omega arith) ∙ hi d h up)
       (λ i. put-cases (λ (a : List ℕ). occurs w a ≡ 0) (s .queue) q l i (λ d. once) (λ d. other i d)) rests
-      ∙ ap settle (rw (rear-from (s .class w) w (s .class w) slice s (put (s .queue) q l) without-w, ne-eqb (s .running) w rests, put-own (s .class) w) refl)
+      ∙ ap settle (rw (rear-from (level s w) w (s .class w) n s (put (s .queue) q l) without-w, ne-eqb (s .running) w rests, put-own (s .class) w) refl)
 
   pub halt-settles : (p : ℕ) → halt p s ≡ settle (leave p 0 0 s)
   unfolding halt remove leave settle
@@ -147,8 +147,8 @@ module _ (s : Procs) (k : Seated slice s) (hi : Highest s) where
       (same? (s .running) p)
 
   -- the runner goes to the rear of queue q, its own class's or where it waits
-  pub wait-settles : (q : ℕ) → goTo q s ≡ settle (toRear q (s .running) (s .class (s .running)) slice s)
-  wait-settles q = ap (goTo q) (sym (rank-own (s .running) s)) ∙ goTo-settles q (s .class (s .running)) s (runner-away slice s k)
+  pub wait-settles : (q : ℕ) → goTo n q s ≡ settle (toRear q (s .running) (s .class (s .running)) n s)
+  wait-settles q = ap (goTo n q) (sym (rank-own (s .running) s)) ∙ goTo-settles n q (s .class (s .running)) s (runner-away n s k)
 
 -- ---- each accepted call
 
@@ -169,127 +169,71 @@ next-process s e =
     (l .0, l .1, eqb-true (places s (lowest 1 (processes - 1) (unused s))) 0 (l .2))
 
 module _ (s : State) (k : Sound s) where
-  abbrev r : Procs
-  r = s .procs
+  abbrev n : ℕ
+  n = s .settings .slice
 
   abbrev Calm : ℕ → Procs → Type 0
-  Calm d r′ = Shifted (s .procs) d Nowhere Nobody r′
+  Calm d r′ = Shifted n (s .procs) d Nowhere Nobody r′
 
   still : settle (s .procs) ≡ s .procs
   still = settle-still (s .procs) (k .seated .in-class) (k .highest)
 
   -- nothing moves
   pub stayed : Calm 0 (s .procs)
-  stayed = shift (s .procs) 0 Nowhere Nobody (s .procs) (s .procs) (k .seated) stay (same-framed (s .procs) (s .procs .ticks)) (sym still)
+  stayed = shift n (s .procs) 0 Nowhere Nobody (s .procs) (s .procs) (slice-some s k) (k .seated) (only stay) (same-framed (s .procs) (s .procs .ticks)) (sym still)
 
   -- p goes to the rear of class c
-  readied : (p c : ℕ) (r′ : Procs) → 1 ≤ p → p < processes → Away (s .procs) p → c < classes → r′ ≡ settle (toRear c p c slice (s .procs)) → Calm 0 r′
-  readied p c r′ h h′ away hc e = shift (s .procs) 0 Nowhere Nobody r′ (toRear c p c slice (s .procs)) (k .seated) (rear p c h h′ away hc) (class-framed p c (s .procs) hc h) e
+  readied : (p c : ℕ) (r′ : Procs) → 1 ≤ p → p < processes → Away (s .procs) p → c < classes → r′ ≡ settle (toRear c p c n (s .procs)) → Calm 0 r′
+  readied p c r′ h h′ away hc e = shift n (s .procs) 0 Nowhere Nobody r′ (toRear c p c n (s .procs)) (slice-some s k) (k .seated) (only (rear p c h h′ away hc)) (class-framed c p c n (s .procs) hc h) e
 
-  pub made : (c : ℕ) → leb classes c ≡ false → eqb (freeProcess (s .procs)) processes ≡ false → Calm 0 (makeReady (freeProcess (s .procs)) (rank (freeProcess (s .procs)) c (s .procs)))
+  pub made : (c : ℕ) → leb classes c ≡ false → eqb (freeProcess (s .procs)) processes ≡ false → Calm 0 (makeReady n (freeProcess (s .procs)) (rank (freeProcess (s .procs)) c (s .procs)))
   made c e e′ =
       let y = next-process (s .procs) e′ in
       let p : ℕ = freeProcess (s .procs) in
-      readied p c (makeReady p (rank p c (s .procs))) (y .0) (y .1) (λ d b. nowhere slice (s .procs) (k .seated) p d (y .2)) (leb-false classes c e)
-      (create-settles (s .procs) (k .seated) (k .highest) p c (y .2) (leb-false classes c e))
+      readied p c (makeReady n p (rank p c (s .procs))) (y .0) (y .1) (λ d b. nowhere n (s .procs) (k .seated) p d (y .2)) (leb-false classes c e)
+      (create-settles n (s .procs) (k .seated) (k .highest) p c (y .2) (leb-false classes c e))
 
-  pub roused : (q w : ℕ) (l : List ℕ) → classes ≤ q → s .procs .queue q ≡ w ∷ l → Calm 0 (makeReady w (line q l (s .procs)))
+  pub roused : (q w : ℕ) (l : List ℕ) → classes ≤ q → s .procs .queue q ≡ w ∷ l → Calm 0 (makeReady n w (line q l (s .procs)))
   roused q w l hq e =
-      let here : In (s .procs) q w = head-in slice (s .procs) (k .seated) q w l e in
-      let who = member slice (s .procs) (k .seated) q w here in
-      readied w (s .procs .class w) (makeReady w (line q l (s .procs))) (who .0) (who .1) (λ d b. one-queue slice (s .procs) (k .seated) q d w here (omega arith)) (k .seated .in-class w)
-      (wake-settles (s .procs) (k .seated) (k .highest) q w l hq e)
+      let here : In (s .procs) q w = head-in n (s .procs) (k .seated) q w l e in
+      let who = member n (s .procs) (k .seated) q w here in
+      readied w (s .procs .class w) (makeReady n w (line q l (s .procs))) (who .0) (who .1) (λ d b. one-queue n (s .procs) (k .seated) q d w here (omega arith)) (k .seated .in-class w)
+      (wake-settles n (s .procs) (k .seated) (k .highest) q w l hq e)
 
-  graded : (c : ℕ) → s .procs .running ≢ 0 → c < classes → Calm 0 (goTo c (rank (s .procs .running) c (s .procs)))
+  graded : (c : ℕ) → s .procs .running ≢ 0 → c < classes → Calm 0 (goTo n c (rank (s .procs .running) c (s .procs)))
   graded c z hc =
-      readied (s .procs .running) c (goTo c (rank (s .procs .running) c (s .procs))) (omega arith) (runner-range slice (s .procs) (k .seated)) (λ d b. runner-away slice (s .procs) (k .seated) d) hc
-      (goTo-settles c c (s .procs) (runner-away slice (s .procs) (k .seated)))
+      readied (s .procs .running) c (goTo n c (rank (s .procs .running) c (s .procs))) (omega arith) (runner-range n (s .procs) (k .seated)) (λ d b. runner-away n (s .procs) (k .seated) d) hc
+      (goTo-settles n c c (s .procs) (runner-away n (s .procs) (k .seated)))
 
-  pub yields : s .procs .running ≢ 0 → Calm 0 (yielded (s .procs))
+  pub yields : s .procs .running ≢ 0 → Calm 0 (yielded n (s .procs))
   yields z = rw (rank-own (s .procs .running) (s .procs)) at (graded (s .procs .class (s .procs .running)) z (k .seated .in-class (s .procs .running)))
 
-  pub grades : (c : ℕ) → s .procs .running ≢ 0 → c < classes → Calm 0 (regraded c (s .procs))
+  pub grades : (c : ℕ) → s .procs .running ≢ 0 → c < classes → Calm 0 (regraded n c (s .procs))
   grades c z hc = ⊎-elim (λ e. rw e stayed) (λ e. rw e (graded c z hc)) (either (eqb c (s .procs .class (s .procs .running))))
 
-  pub halted : (p : ℕ) → 1 ≤ p → Shifted (s .procs) 0 Nowhere (λ x. x ≡ p) (halt p (s .procs))
+  pub halted : (p : ℕ) → 1 ≤ p → Shifted n (s .procs) 0 Nowhere (λ x. x ≡ p) (halt p (s .procs))
   halted p h =
-      shift (s .procs) 0 Nowhere (λ x. x ≡ p) (halt p (s .procs)) (leave p 0 0 (s .procs)) (k .seated) (Moves.halt p h) (gone-framed p (s .procs))
-      (halt-settles (s .procs) (k .seated) (k .highest) p)
+      shift n (s .procs) 0 Nowhere (λ x. x ≡ p) (halt p (s .procs)) (leave p 0 0 (s .procs)) (slice-some s k) (k .seated) (only (Moves.halt p h)) (gone-framed p (s .procs))
+      (halt-settles n (s .procs) (k .seated) (k .highest) p)
 
-  pub paused : (q : ℕ) → s .procs .running ≢ 0 → classes ≤ q → q < queues → Shifted (s .procs) 0 (λ i x. (i ≡ q) × (x ≡ s .procs .running)) Nobody (goTo q (s .procs))
+  pub paused : (q : ℕ) → s .procs .running ≢ 0 → classes ≤ q → q < queues → Shifted n (s .procs) 0 (λ i x. (i ≡ q) × (x ≡ s .procs .running)) Nobody (goTo n q (s .procs))
   paused q z h₅ hq =
       let c : ℕ = s .procs .class (s .procs .running) in
-      shift (s .procs) 0 (λ i x. (i ≡ q) × (x ≡ s .procs .running)) Nobody (goTo q (s .procs)) (toRear q (s .procs .running) c slice (s .procs)) (k .seated) (pause q z h₅ hq)
-      (rear-framed q (s .procs .running) c slice (s .procs) hq (omega arith)) (wait-settles (s .procs) (k .seated) (k .highest) q)
+      shift n (s .procs) 0 (λ i x. (i ≡ q) × (x ≡ s .procs .running)) Nobody (goTo n q (s .procs)) (toRear q (s .procs .running) c n (s .procs)) (slice-some s k) (k .seated) (only (pause q z h₅ hq))
+      (rear-framed q (s .procs .running) c n (s .procs) hq (omega arith)) (wait-settles n (s .procs) (k .seated) (k .highest) q)
 
-  spends : (t : ℕ) → s .procs .running ≢ 0 → s .procs .ticks (s .procs .running) - 1 ≡ t → Calm 1 (spent t (s .procs))
+  spends : (t : ℕ) → s .procs .running ≢ 0 → s .procs .ticks (s .procs .running) - 1 ≡ t → Calm 1 (spent n t (s .procs))
   spends zero z e =
       let c : ℕ = s .procs .class (s .procs .running) in
-      shift (s .procs) 1 Nowhere Nobody (yielded (s .procs)) (toRear c (s .procs .running) c slice (s .procs)) (k .seated) (again z)
-      (class-framed (s .procs .running) c (s .procs) (k .seated .in-class (s .procs .running)) (omega arith)) (wait-settles (s .procs) (k .seated) (k .highest) c)
+      shift n (s .procs) 1 Nowhere Nobody (yielded n (s .procs)) (toRear c (s .procs .running) c n (s .procs)) (slice-some s k) (k .seated) (only (again z))
+      (class-framed c (s .procs .running) c n (s .procs) (k .seated .in-class (s .procs .running)) (omega arith)) (wait-settles n (s .procs) (k .seated) (k .highest) c)
   spends (suc t) z e =
       let m : Procs = left (s .procs .running) (suc t) (s .procs) in
-      shift (s .procs) 1 Nowhere Nobody m m (k .seated) (spend t z (omega arith)) (same-framed (s .procs) (m .ticks)) (sym (settle-still m (k .seated .in-class) (k .highest)))
+      shift n (s .procs) 1 Nowhere Nobody m m (slice-some s k) (k .seated) (only (spend t z (omega arith))) (same-framed (s .procs) (m .ticks)) (sym (settle-still m (k .seated .in-class) (k .highest)))
 
-  pub ticks : Calm 1 (ticked (s .procs))
+  pub ticks : Calm 1 (ticked n (s .procs))
   ticks = ⊎-elim
       (λ (z : s .procs .running ≡ 0). rw (eq-eqb (s .procs .running) 0 z)
-      (shift (s .procs) 1 Nowhere Nobody (s .procs) (s .procs) (k .seated) (Moves.idle z) (same-framed (s .procs) (s .procs .ticks)) (sym still)))
+      (shift n (s .procs) 1 Nowhere Nobody (s .procs) (s .procs) (slice-some s k) (k .seated) (only (Moves.idle z)) (same-framed (s .procs) (s .procs .ticks)) (sym still)))
       (λ (z : s .procs .running ≢ 0). rw (ne-eqb (s .procs .running) 0 z) (spends (s .procs .ticks (s .procs .running) - 1) z refl))
       (same? (s .procs .running) 0)
-
-  delivers : (m : ℕ) (x : Message) (l : List ℕ) → s .procs .queue (atMailbox m) ≡ l → Moved (s .procs) 0 ((deliver m x l s) .procs)
-  delivers m x [] e = stayed .moved
-  delivers m x (w ∷ l) e = roused (atMailbox m) w l (omega arith) e .moved
-
-  wakes : (i : ℕ) (l : List ℕ) → s .procs .queue (atSemaphore i) ≡ l → Moved (s .procs) 0 ((wake i l s) .procs)
-  wakes i [] e = stayed .moved
-  wakes i (w ∷ l) e = roused (atSemaphore i) w l (omega arith) e .moved
-
-  fetches : (m : ℕ) (l : List Message) → s .procs .running ≢ 0 → m < mailboxes → Moved (s .procs) 0 ((fetch m l s) .next .procs)
-  fetches m [] z h = paused (atMailbox m) z (omega arith) (omega arith) .moved
-  fetches m (x ∷ l) z h = stayed .moved
-
-  lowers : (i n : ℕ) → s .procs .running ≢ 0 → i < semaphores → Moved (s .procs) 0 ((lower i n s) .next .procs)
-  lowers i zero z h = paused (atSemaphore i) z (omega arith) (omega arith) .moved
-  lowers i (suc n) z h = stayed .moved
-
-  performed : (c : Call) → Passed (refusals s c) → Moved (s .procs) (as-one (isTick (kind c))) ((perform s c) .next .procs)
-  unfolding perform refusals
-  performed (create c) x = made c (x .0) (x .1 .0) .moved
-  performed (stop p) x = halted p (somebody p s (x .0) .0) .moved
-  performed end x = let z = eqb-false (s .procs .running) 0 (x .0) in halted (s .procs .running) (omega arith) .moved
-  performed yield x = yields (eqb-false (s .procs .running) 0 (x .0)) .moved
-  performed (class c) x = grades c (eqb-false (s .procs .running) 0 (x .0)) (leb-false classes c (x .1 .0)) .moved
-  performed tick x = ticks .moved
-  performed (send m b) x = delivers m (record { buffer = freeBuffer s; bytes = b }) (s .procs .queue (atMailbox m)) refl
-  performed (receive m) x = fetches m (s .box m) (eqb-false (s .procs .running) 0 (x .0)) (leb-false mailboxes m (x .1 .0))
-  performed (read room) x = stayed .moved
-  performed release x = stayed .moved
-  performed (signal i) x = wakes i (s .procs .queue (atSemaphore i)) refl
-  performed (wait i) x = lowers i (s .count i) (eqb-false (s .procs .running) 0 (x .0)) (leb-false semaphores i (x .1 .0))
-
-  -- a tick is never refused
-  ticks-pass : (c : Call) → (as-one (isTick (kind c)) ≡ 0) ⊎ Passed (refusals s c)
-  unfolding refusals
-  ticks-pass (create c) = inl refl
-  ticks-pass (stop p) = inl refl
-  ticks-pass end = inl refl
-  ticks-pass yield = inl refl
-  ticks-pass (class c) = inl refl
-  ticks-pass tick = inr tt
-  ticks-pass (send m b) = inl refl
-  ticks-pass (receive m) = inl refl
-  ticks-pass (read room) = inl refl
-  ticks-pass release = inl refl
-  ticks-pass (signal i) = inl refl
-  ticks-pass (wait i) = inl refl
-
-  -- every call, refused ones too
-  pub step-moved : (c : Call) → Moved (s .procs) (as-one (isTick (kind c))) ((step s c) .next .procs)
-  unfolding step
-  step-moved c = ⊎-elim
-      (λ (e : as-one (isTick (kind c)) ≡ 0). judged (λ (t : State). Moved (s .procs) (as-one (isTick (kind c))) (t .procs)) (refusals s c) s (perform s c)
-      (subst (λ (d : ℕ). Moved (s .procs) d (s .procs)) (sym e) (stayed .moved)) (performed c))
-      (λ (x : Passed (refusals s c)). rw (accepted (refusals s c) s (perform s c) x) (performed c x))
-      (ticks-pass c)

@@ -10,18 +10,17 @@ use lib.Dec.{eqb}
 use borrow.Author.Tests.{eq-eqb, ne-eqb, eqb-true}
 use Rattle.lists.specs.Lists.{if_then_else_, put, occurs, without, total}
 use Rattle.lists.proofs.Laws.{either, or-false, same?, put-same, put-other, put-cases, one-same, occurs-rear, occurs-without-other, total-at, total-le, total-lt, total-times}
-use Rattle.plain.specs.Sizes.{processes, slice}
-use Rattle.plain.specs.State.{Procs, State, places}
+use Rattle.plain.specs.Sizes.{processes}
+use Rattle.plain.specs.State.{Procs, State, level, places}
 use Rattle.plain.specs.Calls.{Call, step}
 use Rattle.plain.specs.Sound.{Seated, Sound}
-use Rattle.plain_laws.specs.Moves.{rid, leave, toRear, settle, Move, stay, idle, spend, again, rear, pause, halt}
+use Rattle.plain_laws.specs.Moves.{rid, leave, toRear, settle, Move, stay, idle, spend, again, rear, pause, halt, Others, none, also, Chain}
 use Rattle.plain_laws.specs.History.{kind, isTick, as-one, Ready, onDuty, leads, isAhead, countAhead, isOver, ticksSeen, turnsBefore}
 use Rattle.plain_laws.proofs.Places.{runs-once, leave-gone, rear-other, rear-elsewhere, rear-there}
-use Rattle.plain_laws.proofs.Seats.{member, runner-range, queue-once, queued-rests, move-seated}
+use Rattle.plain_laws.proofs.Seats.{member, runner-range, queue-once, queued-rests, move-seated, chain-seated}
 use Rattle.plain_laws.proofs.Settle.{settle-kept}
 use Rattle.plain_laws.proofs.Frames.{slice-some}
-use Rattle.plain_laws.proofs.Calls.{step-moved}
-use Rattle.plain_laws.proofs.Sound.{step-sound}
+use Rattle.plain_laws.proofs.Sound.{step-sound, step-moved}
 use Rattle.plain_laws.proofs.Ahead.{leads-rear, leads-in, left-behind, duty-on, Alike, settle-alike}
 
 or-elim : (a b : Bool) → (a || b) ≡ true → (a ≡ true) ⊎ (b ≡ true)
@@ -33,15 +32,15 @@ and-elim true b e = (refl, e)
 and-elim false b e = absurd (true≢false (sym e))
 
 -- who runs as one of p's class
-duty : (s : Procs) (p x : ℕ) → onDuty s p x ≡ true → (x ≡ s .running) × (x ≢ 0) × (s .class x ≡ s .class p)
+duty : (s : Procs) (p x : ℕ) → onDuty s p x ≡ true → (x ≡ s .running) × (x ≢ 0) × (level s x ≡ level s p)
 duty s p x e =
-    let a = and-elim (eqb x (s .running)) (not (eqb x 0) && eqb (s .class x) (s .class p)) e in
-    let b = and-elim (not (eqb x 0)) (eqb (s .class x) (s .class p)) (a .1) in
-    (eqb-true x (s .running) (a .0), (λ z. true≢false (sym (b .0) ∙ ap not (eq-eqb x 0 z))), eqb-true (s .class x) (s .class p) (b .1))
+    let a = and-elim (eqb x (s .running)) (not (eqb x 0) && eqb (level s x) (level s p)) e in
+    let b = and-elim (not (eqb x 0)) (eqb (level s x) (level s p)) (a .1) in
+    (eqb-true x (s .running) (a .0), (λ z. true≢false (sym (b .0) ∙ ap not (eq-eqb x 0 z))), eqb-true (level s x) (level s p) (b .1))
 
 -- p fares: it is ready as before, nobody new is ahead of it, and of those who are nobody has more ticks; the runner, if ahead, has fewer after a tick
 pub record Fares (d p : ℕ) (s s′ : Procs) : Type 0 where
-  pub class : s′ .class p ≡ s .class p
+  pub class : level s′ p ≡ level s p
   pub ready : Ready s′ p
   pub rests : s′ .running ≢ p
   pub kept : (x : ℕ) → isAhead s′ p x ≡ true → (isAhead s p x ≡ true) × (s′ .ticks x ≤ s .ticks x)
@@ -51,7 +50,7 @@ pub record Fares (d p : ℕ) (s s′ : Procs) : Type 0 where
 
 module _ (n p : ℕ) (s : Procs) (k : Seated n s) (o : Ready s p) where
   abbrev c : ℕ
-  c = s .class p
+  c = level s p
 
   p-used : 1 ≤ p
   p-used = member n s k c p o .0
@@ -63,8 +62,8 @@ module _ (n p : ℕ) (s : Procs) (k : Seated n s) (o : Ready s p) where
   removed : (d y e t : ℕ) (m : Procs) → y ≢ p → m .running ≡ rid (s .running) y → m .class ≡ put (s .class) y e → m .ticks ≡ put (s .ticks) y t
       → 1 ≤ occurs p (m .queue c) → ((x : ℕ) → leads x p (m .queue c) ≡ true → (x ≢ y) × (leads x p (s .queue c) ≡ true)) → (1 ≤ d → y ≡ s .running) → Fares d p s m
   removed d y e t m apart run-is class-is ticks-are there behind falls =
-      let same-class : (x : ℕ) → x ≢ y → m .class x ≡ s .class x = λ x b. ap (λ (f : ℕ → ℕ). f x) class-is ∙ put-other (s .class) y e x b in
-      let p-class : m .class p ≡ c = same-class p (λ b. apart (sym b)) in
+      let same-class : (x : ℕ) → x ≢ y → level m x ≡ level s x = λ x b. ap (λ (f : ℕ → ℕ). f x) class-is ∙ put-other (s .class) y e x b in
+      let p-class : level m p ≡ c = same-class p (λ b. apart (sym b)) in
       let ran : (x : ℕ) → x ≢ 0 → x ≡ m .running → (x ≡ s .running) × (x ≢ y) = λ x z b. ⊎-elim
       (λ (i : s .running ≡ y). absurd (z (b ∙ (run-is ∙ rw (eq-eqb (s .running) y i) refl))))
       (λ (i : s .running ≢ y). let w : x ≡ s .running = b ∙ (run-is ∙ rw (ne-eqb (s .running) y i) refl) in (w, λ g. i (sym w ∙ g)))
@@ -73,12 +72,12 @@ module _ (n p : ℕ) (s : Procs) (k : Seated n s) (o : Ready s p) where
       (λ (b : onDuty m p x ≡ true).
       let w = duty m p x b in
       let v = ran x (w .1) (w .0) in
-      let cls : s .class (s .running) ≡ c = ap (s .class) (sym (v .0)) ∙ (sym (same-class x (v .1)) ∙ (w .2 ∙ p-class)) in
+      let cls : level s (s .running) ≡ c = ap (level s) (sym (v .0)) ∙ (sym (same-class x (v .1)) ∙ (w .2 ∙ p-class)) in
       (v .1, rw (duty-on s p x (λ z. w .1 (v .0 ∙ z)) cls, eq-eqb (s .running) x (sym (v .0))) refl))
-      (λ (b : leads x p (m .queue (m .class p)) ≡ true).
+      (λ (b : leads x p (m .queue (level m p)) ≡ true).
       let w = behind x (subst (λ (i : ℕ). leads x p (m .queue i) ≡ true) p-class b) in
       (w .0, rw (w .1) (or-true (onDuty s p x))))
-      (or-elim (onDuty m p x) (leads x p (m .queue (m .class p))) a) in
+      (or-elim (onDuty m p x) (leads x p (m .queue (level m p))) a) in
       record {
         class = p-class;
         ready = subst (λ (i : ℕ). 1 ≤ occurs p (m .queue i)) (sym p-class) there;
@@ -125,7 +124,7 @@ module _ (n p : ℕ) (s : Procs) (k : Seated n s) (o : Ready s p) where
     kept = λ x a. (a, put-cases (λ (b : ℕ). b ≤ s .ticks x) (s .ticks) (s .running) (suc t) x (λ i. rw i (omega arith)) (λ i. omega arith));
     spends = λ h b a. rw (put-same (s .ticks) (s .running) (suc t)) (omega arith);
   })
-  move-fares d m (again z) = inr (rear-fares 1 (s .class (s .running)) (s .running) (s .class (s .running)) n p-rests (λ h. refl))
+  move-fares d m (again z) = inr (rear-fares 1 (level s (s .running)) (s .running) (s .class (s .running)) n p-rests (λ h. refl))
   move-fares d m (rear y e y₁ y₂ away he) = inr (rear-fares 0 e y e n (λ i. omega (arith, away c (k .in-class p), subst (λ (x : ℕ). occurs x (s .queue c) ≡ 0) i (away c (k .in-class p)))) (λ h. absurd (omega arith)))
   move-fares d m (pause q z h₅ hq) = inr (rear-fares 0 q (s .running) (s .class (s .running)) n p-rests (λ h. absurd (omega arith)))
   move-fares d m (halt y y₁) = ⊎-elim (λ (e : y ≡ p). inl (subst (λ (x : ℕ). places (leave y 0 0 s) x ≡ 0) e (leave-gone y 0 0 s y₁))) (λ e. inr (gone-fares y e)) (same? y p)
@@ -193,6 +192,28 @@ module _ (n p : ℕ) (s : Procs) (k : Seated n s) (o : Ready s p) where
       go x true = omega (arith, k .ticks-most x)
       go x false = omega arith
 
+-- ---- a chain of moves
+
+fares-on : (d p : ℕ) (s m s′ : Procs) → Fares d p s m → Fares 0 p m s′ → Fares d p s s′
+fares-on d p s m s′ f g = record {
+  class = g .class ∙ f .class;
+  ready = g .ready;
+  rests = g .rests;
+  kept = λ x a. let w = g .kept x a in let v = f .kept x (w .0) in (v .0, omega (arith, v .1, w .1));
+  spends = λ h b a. let w = g .kept (s .running) a in omega (arith, f .spends h b (w .0), w .1);
+}
+
+-- p was stopped, or fares
+module _ (n p : ℕ) (h : 1 ≤ n) where
+  others-fares : (d : ℕ) (s m : Procs) {s′ : Procs} → 1 ≤ p → Seated n m → Others n m s′ → (places m p ≡ 0) ⊎ Fares d p s m → (places s′ p ≡ 0) ⊎ Fares d p s s′
+  others-fares d s m hp k none f = f
+  others-fares d s m hp k (also {m = m′} v kept rest) f = others-fares d s m′ hp (move-seated n m k 0 m′ h v) rest (⊎-elim
+      (λ z. inl (kept p hp z))
+      (λ (g : Fares d p s m). ⊎-elim (λ z. inl z) (λ (i : Fares 0 p m m′). inr (fares-on d p s m m′ g i)) (move-fares n p m k (g .ready) 0 m′ v)) f)
+
+  chain-fares : (d : ℕ) (s m : Procs) (k : Seated n s) (o : Ready s p) → Chain n s d m → (places m p ≡ 0) ⊎ Fares d p s m
+  chain-fares d s m k o v = others-fares d s (v .midway) (p-used n p s k o) (move-seated n s k d (v .midway) h (v .first)) (v .others) (move-fares n p s k o d (v .midway) (v .first))
+
 -- ---- one call, and any calls
 
 over-runs : (s : Procs) (p : ℕ) → s .running ≡ p → isOver s p ≡ true
@@ -205,35 +226,37 @@ over-gone s p e = rw (eq-eqb (places s p) 0 e) (or-true (eqb (s .running) p))
 onward : (p : ℕ) (s : State) (c : Call) → Sound s → Ready (s .procs) p
     → (isOver ((step s c) .next .procs) p ≡ true) ⊎ Fares (as-one (isTick (kind c))) p (s .procs) ((step s c) .next .procs)
 onward p s c k o =
+    let n : ℕ = s .settings .slice in
     let v = step-moved s k c in
     let r′ : Procs = (step s c) .next .procs in
     let d : ℕ = as-one (isTick (kind c)) in
-    let seated : Seated slice (v .to) = move-seated slice (s .procs) (k .seated) d (v .to) slice-some (v .move) in
+    let seated : Seated n (v .to) = chain-seated n (s .procs) (k .seated) d (v .to) (slice-some s k) (v .chain) in
     ⊎-elim
-    (λ (z : places (v .to) p ≡ 0). inl (over-gone r′ p (rw (v .settled) (settle-kept slice (v .to) seated .placed p (p-used slice p (s .procs) (k .seated) o) ∙ z))))
-    (λ (f : Fares d p (s .procs) (v .to)). rw (v .settled) (⊎-elim (λ e. inl (over-runs (settle (v .to)) p e)) (λ g. inr g) (settle-fares slice p (s .procs) (k .seated) o d (v .to) seated f)))
-    (move-fares slice p (s .procs) (k .seated) o d (v .to) (v .move))
+    (λ (z : places (v .to) p ≡ 0). inl (over-gone r′ p (rw (v .settled) (settle-kept n (v .to) seated .placed p (p-used n p (s .procs) (k .seated) o) ∙ z))))
+    (λ (f : Fares d p (s .procs) (v .to)). rw (v .settled) (⊎-elim (λ e. inl (over-runs (settle (v .to)) p e)) (λ g. inr g) (settle-fares n p (s .procs) (k .seated) o d (v .to) seated f)))
+    (chain-fares n p (slice-some s k) d (s .procs) (v .to) (k .seated) o (v .chain))
 
 over-sees-none : (p : ℕ) (s : State) (cs : List Call) → isOver (s .procs) p ≡ true → ticksSeen p s cs ≡ 0
 unfolding ticksSeen
 over-sees-none p s [] e = refl
 over-sees-none p s (c ∷ cs) e = rw e refl
 
-sees : (p : ℕ) (s : State) (cs : List Call) (k : Sound s) (o : Ready (s .procs) p) → ticksSeen p s cs ≤ total processes (load slice p (s .procs) (k .seated) o (s .procs .ticks) (s .procs))
+sees : (p : ℕ) (s : State) (cs : List Call) (k : Sound s) (o : Ready (s .procs) p) → ticksSeen p s cs ≤ total processes (load (s .settings .slice) p (s .procs) (k .seated) o (s .procs .ticks) (s .procs))
 unfolding ticksSeen
 sees p s [] k o = omega arith
 sees p s (c ∷ cs) k o =
     let s′ : State = (step s c) .next in
     let t : Bool = isTick (kind c) in
-    let rest : as-one (t && onDuty (s .procs) p (s .procs .running)) + ticksSeen p s′ cs ≤ total processes (load slice p (s .procs) (k .seated) o (s .procs .ticks) (s .procs)) = ⊎-elim
-    (λ (e : isOver (s′ .procs) p ≡ true). omega (arith, over-sees-none p s′ cs e, tick-counts slice p (s .procs) (k .seated) o t))
-    (λ (f : Fares (as-one t) p (s .procs) (s′ .procs)). omega (arith, sum-falls slice p (s .procs) (k .seated) o t (s′ .procs) f, sees p s′ cs (step-sound s k c) (f .ready)))
+    let n : ℕ = s .settings .slice in
+    let rest : as-one (t && onDuty (s .procs) p (s .procs .running)) + ticksSeen p s′ cs ≤ total processes (load n p (s .procs) (k .seated) o (s .procs .ticks) (s .procs)) = ⊎-elim
+    (λ (e : isOver (s′ .procs) p ≡ true). omega (arith, over-sees-none p s′ cs e, tick-counts n p (s .procs) (k .seated) o t))
+    (λ (f : Fares (as-one t) p (s .procs) (s′ .procs)). omega (arith, sum-falls n p (s .procs) (k .seated) o t (s′ .procs) f, sees p s′ cs (step-sound s k c) (f .ready)))
     (onward p s c k o) in
     ⊎-elim (λ e. rw e (omega arith)) (λ e. rw e rest) (either (isOver (s .procs) p))
 
 -- the first half
-pub few-ticks : (p : ℕ) (s : State) (cs : List Call) → Sound s → Ready (s .procs) p → ticksSeen p s cs ≤ slice * countAhead (s .procs) p
-few-ticks p s cs k o = omega (arith, sees p s cs k o, sum-bound slice p (s .procs) (k .seated) o)
+pub few-ticks : (p : ℕ) (s : State) (cs : List Call) → Sound s → Ready (s .procs) p → ticksSeen p s cs ≤ s .settings .slice * countAhead (s .procs) p
+few-ticks p s cs k o = omega (arith, sees p s cs k o, sum-bound (s .settings .slice) p (s .procs) (k .seated) o)
 
 -- who is not ahead of p does not come to be
 pub nobody-passes : (x p : ℕ) (s : State) (cs : List Call) → Sound s → Ready (s .procs) p → isAhead (s .procs) p x ≡ false → turnsBefore x p s cs ≡ 0
@@ -244,19 +267,19 @@ nobody-passes x p s (c ∷ cs) k o a =
     ⊎-elim (λ (e : isOver (s′ .procs) p ≡ true). rw e refl)
     (λ (f : Fares (as-one (isTick (kind c))) p (s .procs) (s′ .procs)).
     let still : isAhead (s′ .procs) p x ≡ false = ⊎-elim (λ e. absurd (true≢false (sym (f .kept x e .0) ∙ a))) (λ e. e) (either (isAhead (s′ .procs) p x)) in
-    let off : onDuty (s′ .procs) p x ≡ false = or-false (onDuty (s′ .procs) p x) (leads x p (s′ .procs .queue (s′ .procs .class p))) still .0 in
+    let off : onDuty (s′ .procs) p x ≡ false = or-false (onDuty (s′ .procs) p x) (leads x p (s′ .procs .queue (level (s′ .procs) p))) still .0 in
     ⊎-elim (λ (e : isOver (s′ .procs) p ≡ true). rw e refl)
     (λ (e : isOver (s′ .procs) p ≡ false). rw e (rw off (omega (arith, nobody-passes x p s′ cs (step-sound s k c) (f .ready) still))))
     (either (isOver (s′ .procs) p)))
     (onward p s c k o)
 
 -- who joined the rear of p's class, where p stands before it, is not ahead of p
-pub rear-behind : (x p : ℕ) (s : Procs) (l : List ℕ) → Seated slice s → s .queue (s .class p) ≡ l ++ (x ∷ []) → 1 ≤ occurs p l → isAhead s p x ≡ false
-rear-behind x p s l k e o =
-    let c : ℕ = s .class p in
+pub rear-behind : (n x p : ℕ) (s : Procs) (l : List ℕ) → Seated n s → s .queue (level s p) ≡ l ++ (x ∷ []) → 1 ≤ occurs p l → isAhead s p x ≡ false
+rear-behind n x p s l k e o =
+    let c : ℕ = level s p in
     let twice : occurs x (s .queue c) ≡ occurs x l + 1 = ap (occurs x) e ∙ omega (arith, occurs-rear x x l, one-same x) in
-    let once = queue-once slice s k c x (omega arith) in
-    let off : onDuty s p x ≡ false = ⊎-elim (λ b. absurd (queued-rests slice s k c x (omega arith) (sym (duty s p x b .0)))) (λ b. b) (either (onDuty s p x)) in
+    let once = queue-once n s k c x (omega arith) in
+    let off : onDuty s p x ≡ false = ⊎-elim (λ b. absurd (queued-rests n s k c x (omega arith) (sym (duty s p x b .0)))) (λ b. b) (either (onDuty s p x)) in
     let after : leads x p (s .queue c) ≡ false = ⊎-elim
     (λ (b : leads x p (s .queue c) ≡ true). absurd (omega (arith, leads-in x p l (sym (leads-rear x p l (x ∷ []) o) ∙ (ap (leads x p) (sym e) ∙ b)))))
     (λ b. b) (either (leads x p (s .queue c))) in

@@ -1,4 +1,4 @@
--- Who newly waits and who is newly unused after a move, settled.
+-- Who newly waits and who is newly unused after a chain of moves, settled, where a full slice has n ticks.
 -- Assumes nothing.
 use Prim.Native.Nat.{ℕ, _≤_, _<_}
 use mathlib.Core.Path.{_≡_, refl, sym, ap, _∙_, subst}
@@ -8,11 +8,11 @@ use native.Mathlib.Omega.{arith}
 use Rattle.lists.specs.Lists.{occurs, without}
 use Rattle.lists.proofs.Laws.{same?, occurs-without-same, occurs-without-other}
 use Rattle.plain.specs.Sizes.{processes, classes, queues, slice}
-use Rattle.plain.specs.State.{Procs, places}
-use Rattle.plain.specs.Sound.{Seated, In}
-use Rattle.plain_laws.specs.Moves.{leave, toRear, settle, Move}
+use Rattle.plain.specs.State.{Procs, State, places}
+use Rattle.plain.specs.Sound.{Seated, Sound, In}
+use Rattle.plain_laws.specs.Moves.{leave, toRear, settle, Move, none, Chain}
 use Rattle.plain_laws.proofs.Places.{leave-kept, rear-placed, rear-kept, rear-other, rear-elsewhere, rear-only}
-use Rattle.plain_laws.proofs.Seats.{rear-seated, move-seated}
+use Rattle.plain_laws.proofs.Seats.{rear-seated, chain-seated}
 use Rattle.plain_laws.proofs.Settle.{settle-kept}
 
 pub record Framed (s : Procs) (Enters : ℕ → ℕ → Type 0) (Ends : ℕ → Type 0) (s′ : Procs) : Type 0 where
@@ -26,13 +26,13 @@ Nowhere q x = ⊥
 abbrev pub Nobody : ℕ → Type 0
 Nobody x = ⊥
 
-pub slice-some : 1 ≤ slice
+pub slice-some : (s : State) → Sound s → 1 ≤ s .settings .slice
 unfolding slice
-slice-some = omega arith
+slice-some s k = omega (arith, k .settings .three-ticks)
 
-settled-framed : (s m : Procs) (Enters : ℕ → ℕ → Type 0) (Ends : ℕ → Type 0) → Seated slice m → Framed s Enters Ends m → Framed s Enters Ends (settle m)
-settled-framed s m Enters Ends k f =
-    let h = settle-kept slice m k in
+settled-framed : (n : ℕ) (s m : Procs) (Enters : ℕ → ℕ → Type 0) (Ends : ℕ → Type 0) → Seated n m → Framed s Enters Ends m → Framed s Enters Ends (settle m)
+settled-framed n s m Enters Ends k f =
+    let h = settle-kept n m k in
     record {
       waiting = λ q x b o. f .waiting q x b (subst (λ (l : List ℕ). 1 ≤ occurs x l) (h .waiting q b) o);
       unused = λ x b z. f .unused x b (sym (h .placed x b) ∙ z);
@@ -51,11 +51,11 @@ rear-framed q p c t s hq hp = record {
 }
 
 -- to the rear of a class nobody comes to wait
-pub class-framed : (p c : ℕ) (s : Procs) → c < classes → 1 ≤ p → Framed s Nowhere Nobody (toRear c p c slice s)
-class-framed p c s hc hp =
-    let f = rear-framed c p c slice s (omega arith) hp in
+pub class-framed : (q p c t : ℕ) (s : Procs) → q < classes → 1 ≤ p → Framed s Nowhere Nobody (toRear q p c t s)
+class-framed q p c t s hq hp =
+    let f = rear-framed q p c t s (omega arith) hp in
     record {
-      waiting = λ q x b o. ⊎-elim (λ y. inl y) (λ e. absurd (omega (arith, e .0))) (f .waiting q x b o);
+      waiting = λ i x b o. ⊎-elim (λ y. inl y) (λ e. absurd (omega (arith, e .0))) (f .waiting i x b o);
       unused = f .unused;
     }
 
@@ -73,30 +73,34 @@ pub same-framed : (s : Procs) (t : ℕ → ℕ) → Framed s Nowhere Nobody (rec
 same-framed s t = record { waiting = λ q x b o. inl o; unused = λ x b z. inl z }
 
 -- who went to the rear of a class is used afterwards, and waits nowhere
-pub arrived : (p c : ℕ) (s s′ : Procs) → Seated slice s → c < classes → 1 ≤ p → p < processes → s′ ≡ settle (toRear c p c slice s)
+pub arrived : (n p c : ℕ) (s s′ : Procs) → 1 ≤ n → Seated n s → c < classes → 1 ≤ p → p < processes → s′ ≡ settle (toRear c p c n s)
     → (places s′ p ≡ 1) × ((q : ℕ) → classes ≤ q → occurs p (s′ .queue q) ≡ 0)
-arrived p c s s′ k hc hp hp′ e =
-    let m : Procs = toRear c p c slice s in
-    let h = settle-kept slice m (rear-seated slice s k c p c slice (omega arith) hp hp′ hc (λ z. refl) slice-some (omega arith) (λ z. refl)) in
+arrived n p c s s′ some k hc hp hp′ e =
+    let m : Procs = toRear c p c n s in
+    let h = settle-kept n m (rear-seated n s k c p c n (omega arith) hp hp′ hc (λ z. refl) some (omega arith) (λ z. refl)) in
     rw e (
-      h .placed p hp ∙ rear-placed p c slice s c (omega arith) hp,
-      λ q b. ap (occurs p) (h .waiting q b) ∙ (ap (occurs p) (rear-elsewhere p c slice s c q (omega arith)) ∙ occurs-without-same p (s .queue q)),
+      h .placed p hp ∙ rear-placed p c n s c (omega arith) hp,
+      λ q b. ap (occurs p) (h .waiting q b) ∙ (ap (occurs p) (rear-elsewhere p c n s c q (omega arith)) ∙ occurs-without-same p (s .queue q)),
     )
 
--- s′ is s after a move that lets d ticks fall, settled
-pub record Moved (s : Procs) (d : ℕ) (s′ : Procs) : Type 0 where
+-- s′ is s after a chain of moves that lets d ticks fall, settled
+pub record Moved (n : ℕ) (s : Procs) (d : ℕ) (s′ : Procs) : Type 0 where
   pub to : Procs
-  pub move : Move slice s d to
+  pub chain : Chain n s d to
   pub settled : s′ ≡ settle to
 
 -- and who entered a queue of waiters, and whose number ended
-pub record Shifted (s : Procs) (d : ℕ) (Enters : ℕ → ℕ → Type 0) (Ends : ℕ → Type 0) (s′ : Procs) : Type 0 where
-  pub moved : Moved s d s′
+pub record Shifted (n : ℕ) (s : Procs) (d : ℕ) (Enters : ℕ → ℕ → Type 0) (Ends : ℕ → Type 0) (s′ : Procs) : Type 0 where
+  pub moved : Moved n s d s′
   pub framed : Framed s Enters Ends s′
 
-pub shift : (s : Procs) (d : ℕ) (Enters : ℕ → ℕ → Type 0) (Ends : ℕ → Type 0) (s′ m : Procs) → Seated slice s → Move slice s d m → Framed s Enters Ends m → s′ ≡ settle m
-    → Shifted s d Enters Ends s′
-shift s d Enters Ends s′ m k v f e = record {
-  moved = record { to = m; move = v; settled = e };
-  framed = subst (Framed s Enters Ends) (sym e) (settled-framed s m Enters Ends (move-seated slice s k d m slice-some v) f);
+-- a chain of one
+pub only : {n d : ℕ} {s m : Procs} → Move n s d m → Chain n s d m
+only {m = m} v = record { midway = m; first = v; others = none }
+
+pub shift : (n : ℕ) (s : Procs) (d : ℕ) (Enters : ℕ → ℕ → Type 0) (Ends : ℕ → Type 0) (s′ m : Procs) → 1 ≤ n → Seated n s → Chain n s d m → Framed s Enters Ends m → s′ ≡ settle m
+    → Shifted n s d Enters Ends s′
+shift n s d Enters Ends s′ m some k v f e = record {
+  moved = record { to = m; chain = v; settled = e };
+  framed = subst (Framed s Enters Ends) (sym e) (settled-framed n s m Enters Ends (chain-seated n s k d m some v) f);
 }

@@ -4,8 +4,9 @@ pub mod Settle
 pub mod Frames
 pub mod Calls
 pub mod Mail
-pub mod Sound
+pub mod Accepted
 pub mod Refusals
+pub mod Sound
 pub mod Messages
 pub mod Ahead
 pub mod Fair

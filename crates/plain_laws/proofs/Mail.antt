@@ -97,8 +97,8 @@ module _ (box : ℕ → List Message) (hand : ℕ → Option Message) (k : Mail 
       }
 
   -- the first message of m goes into an empty hand
-  pub mail-take : (m p : ℕ) (x : Message) (l : List Message) → m < mailboxes → p < processes → box m ≡ x ∷ l → hand p ≡ none → Mail (put box m l) (put hand p (some x))
-  mail-take m p x l hm hp e empty =
+  pub mail-fetch : (m p : ℕ) (x : Message) (l : List Message) → m < mailboxes → p < processes → box m ≡ x ∷ l → hand p ≡ none → Mail (put box m l) (put hand p (some x))
+  mail-fetch m p x l hm hp e empty =
       let same : (b : ℕ) → held (put box m l) (put hand p (some x)) b ≡ held box hand b = λ b. omega (
         arith,
         held-hand (put box m l) hand p (some x) b hp,

@@ -1,16 +1,19 @@
--- Which refusal is given, and that an accepted call answers 0 or 32.
+-- Which refusal is given, and what holds of the codes of a call's own refusals.
 -- Assumes nothing.
-use Prim.Native.Nat.{ℕ, zero, suc}
-use mathlib.Core.Path.{_≡_, refl, sym, ap, _∙_}
+use Prim.Native.Nat.{ℕ}
+use mathlib.Core.Path.{_≡_, refl, sym, ap, _∙_, subst}
 use lib.Dec.{eqb}
+use borrow.Author.Tests.{eqb-true, ne-eqb}
+use native.Mathlib.Omega.{arith}
 use mathlib.Core.Bool.{true, false, true≢false}
-use mathlib.Core.Logic.{_⊎_, inl, inr, ⊎-elim}
+use mathlib.Core.Logic.{_≢_, _⊎_, inl, inr, ⊎-elim}
 use mathlib.Core.List.{List, [], _∷_, _++_}
 use Rattle.lists.proofs.Laws.{either}
-use Rattle.plain.specs.State.{Message, State}
-use Rattle.plain.specs.Calls.{Call, create, stop, end, yield, class, tick, send, receive, read, release, signal, wait, Refusal, Outcome, perform, refusals, refused, judge, step, fetch, lower}
-use Rattle.plain_laws.specs.History.{Passed, First, codes, inOrder, order, isRefusal}
-use Rattle.plain_laws.proofs.Calls.{accepted}
+use Rattle.plain.specs.State.{State}
+use Rattle.plain.specs.Calls.{Call, create, stop, end, yield, class, tick, send, receive, read, release, signal, wait, Refusal, Outcome, perform, refusals, refused, judge, step}
+use Rattle.plain_laws.specs.History.{Passed, First, codes, inOrder, own, order, isRefusal, kind, isTick, as-one}
+use Rattle.plain_laws.proofs.Calls.{judged, accepted}
+use Rattle.plain_laws.proofs.Accepted.{accepts}
 
 -- the first refusal of a list that holds is the one that is given
 pub first-given : (xs : List Refusal) (r : Refusal) (ys : List Refusal) (s : State) (o : Outcome) → Passed xs → r .holds ≡ true → judge (xs ++ r ∷ ys) s o ≡ refused r s
@@ -31,29 +34,6 @@ find (x ∷ rs) = ⊎-elim
     (λ p. inr (e, p)) (find rs))
     (either (x .holds))
 
-fetch-answers : (m : ℕ) (l : List Message) (s : State) → isRefusal (fetch m l s .answer) ≡ false
-fetch-answers m [] s = refl
-fetch-answers m (x ∷ l) s = refl
-
-lower-answers : (k n : ℕ) (s : State) → isRefusal (lower k n s .answer) ≡ false
-lower-answers k zero s = refl
-lower-answers k (suc n) s = refl
-
-accepts : (s : State) (c : Call) → isRefusal (perform s c .answer) ≡ false
-unfolding perform
-accepts s (create c) = refl
-accepts s (stop p) = refl
-accepts s end = refl
-accepts s yield = refl
-accepts s (class c) = refl
-accepts s tick = refl
-accepts s (send m b) = refl
-accepts s (receive m) = fetch-answers m (s .box m) s
-accepts s (read room) = refl
-accepts s release = refl
-accepts s (signal k) = refl
-accepts s (wait k) = lower-answers k (s .count k) s
-
 pub given : (s : State) (c : Call) (r : Refusal) → First (refusals s c) r → step s c ≡ refused r s
 unfolding step
 given s c r f = rw (f .whole) (first-given (f .before) r (f .behind) s (perform s c) (f .passed) (f .holds))
@@ -61,48 +41,76 @@ given s c r f = rw (f .whole) (first-given (f .before) r (f .behind) s (perform 
 pub only : (s : State) (c : Call) → isRefusal (step s c .answer) ≡ true → (r : Refusal) × First (refusals s c) r
 unfolding step
 only s c e = ⊎-elim (λ f. f)
-    (λ (p : Passed (refusals s c)). absurd (true≢false (sym e ∙ (ap (λ (o : Outcome). isRefusal (o .answer)) (accepted (refusals s c) s (perform s c) p) ∙ accepts s c))))
+    (λ (p : Passed (refusals s c)). absurd (true≢false (sym e ∙ (ap (λ (o : Outcome). isRefusal (o .answer)) (accepted (refusals s c) s (perform s c) p) ∙ accepts s c .code))))
     (find (refusals s c))
 
 pub unchanged : (s : State) (c : Call) → isRefusal (step s c .answer) ≡ true → (step s c) .next ≡ s
 unchanged s c e = let f = only s c e in ap (λ (o : Outcome). o .next) (given s c (f .0) (f .1))
 
-pub in-order : (s : State) (c : Call) → inOrder (codes (refusals s c)) order ≡ true
+pub settings-stay : (s : State) (c : Call) → (step s c) .next .settings ≡ s .settings
+unfolding step
+settings-stay s c = judged (λ (t : State). t .settings ≡ s .settings) (refusals s c) s (perform s c) refl (λ p. accepts s c .settings)
+
+-- ---- the codes of a call's own refusals
+
+-- all these numbers are so
+abbrev pub Every : (ℕ → Type 0) → List ℕ → Type 0
+Every P [] = Unit {0}
+Every P (k ∷ ks) = P k × Every P ks
+
+-- they stand in their order, and a tick has none
+pub own-codes : (s : State) (c : Call) → (inOrder (codes (refusals s c)) own ≡ true) × ((as-one (isTick (kind c)) ≡ 0) ⊎ Passed (refusals s c))
 unfolding refusals
-in-order s (create c) = refl
-in-order s (stop p) = refl
-in-order s end = refl
-in-order s yield = refl
-in-order s (class c) = refl
-in-order s tick = refl
-in-order s (send m b) = refl
-in-order s (receive m) = refl
-in-order s (read room) = refl
-in-order s release = refl
-in-order s (signal k) = refl
-in-order s (wait k) = refl
+own-codes s (create c) = (refl, inl refl)
+own-codes s (stop p) = (refl, inl refl)
+own-codes s end = (refl, inl refl)
+own-codes s yield = (refl, inl refl)
+own-codes s (class c) = (refl, inl refl)
+own-codes s tick = (refl, inr tt)
+own-codes s (send m b) = (refl, inl refl)
+own-codes s (receive m) = (refl, inl refl)
+own-codes s (read room) = (refl, inl refl)
+own-codes s release = (refl, inl refl)
+own-codes s (signal k) = (refl, inl refl)
+own-codes s (wait k) = (refl, inl refl)
+
+among : (P : ℕ → Type 0) (ks os : List ℕ) → inOrder ks os ≡ true → Every P os → Every P ks
+among P [] os e h = tt
+among P (k ∷ ks) [] e h = absurd (true≢false (sym e))
+among P (k ∷ ks) (o ∷ os) e h = ⊎-elim
+    (λ (t : eqb k o ≡ true). (subst P (sym (eqb-true k o t)) (h .0), among P ks os (sym (rw t refl) ∙ e) (h .1)))
+    (λ (t : eqb k o ≡ false). among P (k ∷ ks) os (sym (rw t refl) ∙ e) (h .1))
+    (either (eqb k o))
+
+-- what holds of each number of the plain kernel's own holds of each code of a call
+pub each-code : (P : ℕ → Type 0) (s : State) (c : Call) → Every P own → Every P (codes (refusals s c))
+each-code P s c = among P (codes (refusals s c)) own (own-codes s c .0)
+
+-- a number that is none of these may stand before the order
+skip : (o : ℕ) (ks os : List ℕ) → Every (λ k. k ≢ o) ks → inOrder ks os ≡ true → inOrder ks (o ∷ os) ≡ true
+skip o [] os d e = refl
+skip o (k ∷ ks) os d e = rw (ne-eqb k o (d .0)) e
+
+pub in-order : (s : State) (c : Call) → inOrder (codes (refusals s c)) order ≡ true
+in-order s c =
+    let ks : List ℕ = codes (refusals s c) in
+    skip 14 ks (15 ∷ own) (each-code (λ k. k ≢ 14) s c (omega arith)) (skip 15 ks own (each-code (λ k. k ≢ 15) s c (omega arith)) (own-codes s c .0))
+
+-- none has code 0, which is no refusal, and none 14, which is judged before them
+abbrev pub Proper : List Refusal → Type 0
+Proper rs = Every (λ k. (k ≢ 0) × (k ≢ 14)) (codes rs)
+
+pub proper : (s : State) (c : Call) → Proper (refusals s c)
+proper s c = each-code (λ k. (k ≢ 0) × (k ≢ 14)) s c (omega arith)
 
 -- ---- a call's outcome by cases: refused, with a code that is not 0, or what the call does
 
 abbrev pub NonZero : List Refusal → Type 0
-NonZero [] = Unit {0}
-NonZero (r ∷ rs) = (eqb (r .code) 0 ≡ false) × NonZero rs
+NonZero rs = Every (λ k. eqb k 0 ≡ false) (codes rs)
+
+pub nonzero : (s : State) (c : Call) → NonZero (refusals s c)
+nonzero s c = each-code (λ k. eqb k 0 ≡ false) s c search
 
 pub judge-cases : (P : Outcome → Type 0) (rs : List Refusal) (s : State) (o : Outcome) → NonZero rs → ((r : Refusal) → eqb (r .code) 0 ≡ false → P (refused r s)) → (Passed rs → P o) → P (judge rs s o)
 judge-cases P [] s o z f g = g tt
 judge-cases P (r ∷ rs) s o z f g = ⊎-elim (λ e. rw e (f r (z .0))) (λ e. rw e (judge-cases P rs s o (z .1) f (λ p. g (e, p)))) (either (r .holds))
-
-pub nonzero : (s : State) (c : Call) → NonZero (refusals s c)
-unfolding refusals
-nonzero s (create c) = (refl, (refl, tt))
-nonzero s (stop p) = (refl, tt)
-nonzero s end = (refl, tt)
-nonzero s yield = (refl, tt)
-nonzero s (class c) = (refl, (refl, tt))
-nonzero s tick = tt
-nonzero s (send m b) = (refl, (refl, (refl, (refl, tt))))
-nonzero s (receive m) = (refl, (refl, (refl, tt)))
-nonzero s (read room) = (refl, (refl, (refl, tt)))
-nonzero s release = (refl, (refl, tt))
-nonzero s (signal k) = (refl, (refl, tt))
-nonzero s (wait k) = (refl, (refl, tt))

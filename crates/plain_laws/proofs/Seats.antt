@@ -1,4 +1,4 @@
--- Each move keeps everyone seated, where a full slice has n ticks.
+-- Each move keeps everyone seated, and so does a chain of them, where a full slice has n ticks.
 -- Assumes nothing.
 use Prim.Native.Nat.{ℕ, suc, _≤_, _<_}
 use mathlib.Core.Path.{_≡_, refl, sym, ap, _∙_, subst}
@@ -8,9 +8,9 @@ use native.Mathlib.Omega.{arith}
 use Rattle.lists.specs.Lists.{occurs, without}
 use Rattle.lists.proofs.Laws.{same?, le?, put-other, put-cases, one-same, occurs-without-same, occurs-without-other}
 use Rattle.plain.specs.Sizes.{processes, classes, queues}
-use Rattle.plain.specs.State.{Procs, places, left}
+use Rattle.plain.specs.State.{Procs, level, places, left}
 use Rattle.plain.specs.Sound.{Seated, In}
-use Rattle.plain_laws.specs.Moves.{leave, toRear, Move, stay, idle, spend, again, rear, pause, halt}
+use Rattle.plain_laws.specs.Moves.{leave, toRear, Move, stay, idle, spend, again, rear, pause, halt, Others, none, also, Chain}
 use Rattle.plain_laws.proofs.Places.{spots-at, spots-two, runs-once, leave-gone, leave-kept, rear-placed, rear-kept, rear-other, rear-elsewhere, rear-only}
 
 module _ (n : ℕ) (s : Procs) (k : Seated n s) where
@@ -134,8 +134,15 @@ module _ (n : ℕ) (s : Procs) (k : Seated n s) where
   move-seated d m h (idle z) = k
   move-seated d m h (spend t r e) = left-seated (suc t) r (omega arith) (omega (arith, k .ticks-most (s .running)))
   move-seated d m h (again r) =
-      rear-seated (s .class (s .running)) (s .running) (s .class (s .running)) n (omega (arith, k .in-class (s .running))) (omega arith) runner-range (k .in-class (s .running)) (λ z. refl) h (omega arith) (λ z. refl)
+      rear-seated (level s (s .running)) (s .running) (s .class (s .running)) n (omega (arith, k .in-class (s .running))) (omega arith) runner-range (k .in-class (s .running)) (λ z. refl) h (omega arith) (λ z. refl)
   move-seated d m h (rear p c p₁ p₂ away hc) = rear-seated c p c n (omega arith) p₁ p₂ hc (λ z. refl) h (omega arith) (λ z. refl)
   move-seated d m h (pause q r h₅ hq) =
       rear-seated q (s .running) (s .class (s .running)) n hq (omega arith) runner-range (k .in-class (s .running)) (λ z. absurd (omega arith)) h (omega arith) (λ z. refl)
   move-seated d m h (halt p p₁) = gone-seated p p₁
+
+others-seated : (n : ℕ) {s s′ : Procs} → 1 ≤ n → Seated n s → Others n s s′ → Seated n s′
+others-seated n h k none = k
+others-seated n h k (also {s} {m} v kept rest) = others-seated n h (move-seated n s k 0 m h v) rest
+
+pub chain-seated : (n : ℕ) (s : Procs) → Seated n s → (d : ℕ) (m : Procs) → 1 ≤ n → Chain n s d m → Seated n m
+chain-seated n s k d m h v = others-seated n h (move-seated n s k d (v .midway) h (v .first)) (v .others)

@@ -9,7 +9,7 @@ use borrow.Author.Tests.{eq-eqb, ne-eqb}
 use Rattle.lists.specs.Lists.{put, one, occurs}
 use Rattle.lists.proofs.Laws.{same?, put-same, put-other, put-cases, one-other}
 use Rattle.plain.specs.Sizes.{classes}
-use Rattle.plain.specs.State.{Procs, places, run, lines, line}
+use Rattle.plain.specs.State.{Procs, level, places, run, lines, line}
 use Rattle.plain.specs.Runs.{first, chooseBelow, choose, standDown}
 use Rattle.plain.specs.Sound.{Seated, Highest}
 use Rattle.plain_laws.specs.Moves.{settle}
@@ -87,7 +87,7 @@ pub down-idle : (s : Procs) → s .running ≡ 0 → standDown s ≡ s
 unfolding standDown
 down-idle s z = rw (eq-eqb (s .running) 0 z) refl
 
-pub down-front : (s : Procs) → s .running ≢ 0 → standDown s ≡ run 0 (line (s .class (s .running)) (s .running ∷ s .queue (s .class (s .running))) s)
+pub down-front : (s : Procs) → s .running ≢ 0 → standDown s ≡ run 0 (line (level s (s .running)) (s .running ∷ s .queue (level s (s .running))) s)
 unfolding standDown
 down-front s d = rw (ne-eqb (s .running) 0 d) refl
 
@@ -96,13 +96,13 @@ down-front s d = rw (ne-eqb (s .running) 0 d) refl
 module _ (n : ℕ) (s : Procs) (k : Seated n s) where
   -- a class queue and the runner change so that everyone's places stay
   reseat : (r c : ℕ) (l : List ℕ) → c < classes → ((x : ℕ) → 1 ≤ x → one r x + occurs x l ≡ one (s .running) x + occurs x (s .queue c)) → occurs 0 l ≡ 0
-      → ((x : ℕ) → 1 ≤ occurs x l → s .class x ≡ c) → Seated n (run r (line c l s))
+      → ((x : ℕ) → 1 ≤ occurs x l → level s x ≡ c) → Seated n (run r (line c l s))
   reseat r c l hc e z lv =
       let same : (x : ℕ) → 1 ≤ x → places (run r (line c l s)) x ≡ places s x = λ x b.
       omega (arith, e x b, spots-run (s .running) r (put (s .queue) c l) x, spots-line (s .running) (s .queue) c l x (omega arith)) in
       record {
         one-place = λ x b. omega (arith, same x b, k .one-place x b);
-        own-class = λ i x b. put-cases (λ (a : List ℕ). 1 ≤ occurs x a → s .class x ≡ i) (s .queue) c l i (λ d o. lv x o ∙ sym d) (λ d. k .own-class i x b);
+        own-class = λ i x b. put-cases (λ (a : List ℕ). 1 ≤ occurs x a → level s x ≡ i) (s .queue) c l i (λ d o. lv x o ∙ sym d) (λ d. k .own-class i x b);
         null-nowhere = λ q. put-cases (λ (a : List ℕ). occurs 0 a ≡ 0) (s .queue) c l q (λ d. z) (λ d. k .null-nowhere q);
         nobody-else = λ x b. same x (omega arith) ∙ k .nobody-else x b;
         no-more-queues = λ i b. put-other (s .queue) c l i (omega arith) ∙ k .no-more-queues i b;
@@ -129,7 +129,7 @@ module _ (n : ℕ) (s : Procs) (k : Seated n s) where
       let here = head-in n s k (p .c) (p .w) (p .l) (p .stood) in
       let pos = member n s k (p .c) (p .w) here in
       let class = k .own-class (p .c) (p .w) (p .below) here in
-      let up : s .class (p .w) < d = above (λ e. omega (arith, pos .0)) in
+      let up : level s (p .w) < d = above (λ e. omega (arith, pos .0)) in
       put-other (s .queue) (p .c) (p .l) d (omega arith) ∙ p .higher d h (omega arith)))
       (λ (p : Rests classes s (choose s)). rw (p .result) (λ d h above. p .nobody d h))
       (choice s)
@@ -139,9 +139,9 @@ module _ (n : ℕ) (s : Procs) (k : Seated n s) where
       (λ (z : s .running ≡ 0). rw (down-idle s z) (z, k))
       (λ (d : s .running ≢ 0). rw (down-front s d) (
         refl,
-        reseat 0 (s .class (s .running)) (s .running ∷ s .queue (s .class (s .running))) (k .in-class (s .running))
-            (λ x b. omega (arith, one-other 0 x (omega arith))) (omega (arith, one-other (s .running) 0 d, k .null-nowhere (s .class (s .running))))
-            (λ x. ⊎-elim (λ e o. rw e refl) (λ e o. k .own-class (s .class (s .running)) x (k .in-class (s .running)) (omega (arith, one-other (s .running) x e))) (same? (s .running) x)),
+        reseat 0 (level s (s .running)) (s .running ∷ s .queue (level s (s .running))) (k .in-class (s .running))
+            (λ x b. omega (arith, one-other 0 x (omega arith))) (omega (arith, one-other (s .running) 0 d, k .null-nowhere (level s (s .running))))
+            (λ x. ⊎-elim (λ e o. rw e refl) (λ e o. k .own-class (level s (s .running)) x (k .in-class (s .running)) (omega (arith, one-other (s .running) x e))) (same? (s .running) x)),
       ))
       (same? (s .running) 0)
 
@@ -183,7 +183,7 @@ down-kept : (n : ℕ) (s : Procs) → Seated n s → Kept s (standDown s)
 down-kept n s k = ⊎-elim
     (λ (z : s .running ≡ 0). rw (down-idle s z) (record { class = refl; ticks = refl; waiting = λ q h. refl; placed = λ x h. refl }))
     (λ (d : s .running ≢ 0).
-    let c : ℕ = s .class (s .running) in
+    let c : ℕ = level s (s .running) in
     let l : List ℕ = s .running ∷ s .queue c in
     rw (down-front s d) (record {
       class = refl;
@@ -215,12 +215,12 @@ settle-kept n s k =
 lines-same : (f : ℕ → List ℕ) (s : Procs) → ((q : ℕ) → f q ≡ s .queue q) → lines f s ≡ s
 lines-same f s h = ap (λ (g : ℕ → List ℕ). lines g s) (fun-ext h)
 
-pub settle-still : (s : Procs) → ((x : ℕ) → s .class x < classes) → Highest s → settle s ≡ s
+pub settle-still : (s : Procs) → ((x : ℕ) → level s x < classes) → Highest s → settle s ≡ s
 unfolding settle
 settle-still s cls hi = ⊎-elim
     (λ (z : s .running ≡ 0). rw (down-idle s z) (choose-none s (λ d h. hi d h (λ b. absurd (b z))) ∙ ap (λ (r : ℕ). run r s) (sym z)))
     (λ (d : s .running ≢ 0).
-    let c : ℕ = s .class (s .running) in
+    let c : ℕ = level s (s .running) in
     let l : List ℕ = s .running ∷ s .queue c in
     rw (down-front s d) (
     choose-is (run 0 (line c l s)) c (s .running) (s .queue c) (cls (s .running)) (put-same (s .queue) c l)

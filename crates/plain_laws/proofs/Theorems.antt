@@ -12,12 +12,12 @@ use Rattle.plain.specs.Runs.{join, standDown, makeReady}
 use Rattle.plain.specs.Calls.{Call, Answer, create, perform, refusals, step, answers, after}
 use Rattle.plain_laws.specs.Theorems.{Soundness, Refusals, Messages, Fairness, Kernel, replies, AnswersAsPlain, UselessShutOut}
 use Rattle.plain_laws.proofs.Sound.{fresh-sound, step-sound, after-sound}
-use Rattle.plain_laws.proofs.Refusals.{given, only, unchanged, in-order}
+use Rattle.plain_laws.proofs.Refusals.{given, only, unchanged, settings-stay, in-order}
 use Rattle.plain_laws.proofs.Messages.{counted-from-fresh}
 use Rattle.plain_laws.proofs.Fair.{few-ticks, nobody-passes, rear-behind}
 
 pub soundness : Soundness
-soundness = record { at-first = fresh-sound; kept = λ s c k. step-sound s k c; always = λ cs. after-sound fresh cs fresh-sound }
+soundness = record { at-first = fresh-sound; kept = λ s c k. step-sound s k c; always = λ cs. after-sound fresh cs fresh-sound; settings-stay = settings-stay }
 
 pub refusals-given : Refusals
 refusals-given = record { given = given; only = only; unchanged = unchanged; ordered = in-order }
@@ -31,7 +31,7 @@ fairness cs p o =
     record {
       few-ticks = λ cs′. few-ticks p (after fresh cs) cs′ k o;
       nobody-passes = λ x cs′ a. nobody-passes x p (after fresh cs) cs′ k o a;
-      rear-waits = λ x l cs′ e b. nobody-passes x p (after fresh cs) cs′ k o (rear-behind x p (after fresh cs .procs) l (k .seated) e b);
+      rear-waits = λ x l cs′ e b. nobody-passes x p (after fresh cs) cs′ k o (rear-behind (after fresh cs .settings .slice) x p (after fresh cs .procs) l (k .seated) e b);
     }
 
 -- ---- two creates from fresh

@@ -7,7 +7,7 @@ use mathlib.Core.List.{List, [], _∷_, _++_}
 use lib.Dec.{eqb}
 use Rattle.lists.specs.Lists.{if_then_else_, someone, total, occurs}
 use Rattle.plain.specs.Sizes.{processes, atMailbox}
-use Rattle.plain.specs.State.{Procs, State, unused}
+use Rattle.plain.specs.State.{Procs, State, level, unused}
 use Rattle.plain.specs.Calls.{Call, create, stop, end, yield, class, tick, send, receive, read, release, signal, wait, Answer, Refusal, Outcome, step}
 
 -- what a call is to the counts: a tick, a send to m, a receive from m, or neither
@@ -57,9 +57,12 @@ inOrder (k ∷ ks) [] = false
 inOrder [] (o ∷ os) = true
 inOrder (k ∷ ks) (o ∷ os) = if eqb k o then inOrder ks os else inOrder (k ∷ ks) os
 
--- "14, then 15, 5, then 1 to 4, then 6, 7, 8, 10, 11, 12, 13, 9"
+-- "14, then 15, 5, then 1 to 4, then 6, 7, 8, 10, 11, 12, 13, 9": 14 and 15 are judged before a call's own
+abbrev pub own : List ℕ
+own = 5 ∷ 1 ∷ 2 ∷ 3 ∷ 4 ∷ 6 ∷ 7 ∷ 8 ∷ 10 ∷ 11 ∷ 12 ∷ 13 ∷ 9 ∷ []
+
 abbrev pub order : List ℕ
-order = 14 ∷ 15 ∷ 5 ∷ 1 ∷ 2 ∷ 3 ∷ 4 ∷ 6 ∷ 7 ∷ 8 ∷ 10 ∷ 11 ∷ 12 ∷ 13 ∷ 9 ∷ []
+order = 14 ∷ 15 ∷ own
 
 -- "All codes but 0 and 32 are refusals"
 abbrev pub isRefusal : Answer → Bool
@@ -99,11 +102,11 @@ gone m s (c ∷ cs) = as-one (isDone (step s c) && isGone m s (kind c)) + gone m
 
 -- p stands ready in the queue of its class
 abbrev pub Ready : Procs → ℕ → Type 0
-Ready s p = 1 ≤ occurs p (s .queue (s .class p))
+Ready s p = 1 ≤ occurs p (s .queue (level s p))
 
 -- x, a process of p's class, runs
 abbrev pub onDuty : Procs → ℕ → ℕ → Bool
-onDuty s p x = eqb x (s .running) && (not (eqb x 0) && eqb (s .class x) (s .class p))
+onDuty s p x = eqb x (s .running) && (not (eqb x 0) && eqb (level s x) (level s p))
 
 -- x stands before p in a list
 abbrev pub leads : ℕ → ℕ → List ℕ → Bool
@@ -112,7 +115,7 @@ leads x p (y ∷ l) = if eqb y p then false else eqb y x || leads x p l
 
 -- x is of p's class and ahead of it, "the runner counted if of that class"
 abbrev pub isAhead : Procs → ℕ → ℕ → Bool
-isAhead s p x = onDuty s p x || leads x p (s .queue (s .class p))
+isAhead s p x = onDuty s p x || leads x p (s .queue (level s p))
 
 -- how many are
 unfoldable pub countAhead : Procs → ℕ → ℕ

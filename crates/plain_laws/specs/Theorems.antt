@@ -6,17 +6,17 @@ use mathlib.Core.Bool.{true, false}
 use mathlib.Core.List.{List, [], _∷_, _++_}
 use lib.ListN.{length}
 use Rattle.lists.specs.Lists.{occurs}
-use Rattle.plain.specs.Sizes.{slice}
-use Rattle.plain.specs.State.{State, fresh}
+use Rattle.plain.specs.State.{State, fresh, level}
 use Rattle.plain.specs.Calls.{Call, Answer, Refusal, refusals, refused, step, answers, after}
 use Rattle.plain.specs.Sound.{Sound}
 use Rattle.plain_laws.specs.History.{First, codes, inOrder, order, isRefusal, sent, gone, Ready, isAhead, countAhead, ticksSeen, turnsBefore}
 
--- 1. A fresh state is sound, every call keeps that, and so every state that calls lead to from fresh is sound.
+-- 1. A fresh state is sound, every call keeps that, and so every state that calls lead to from fresh is sound. No call changes the settings.
 pub record Soundness : Type 0 where
   pub at-first : Sound fresh
   pub kept : (s : State) (c : Call) → Sound s → Sound (step s c .next)
   pub always : (cs : List Call) → Sound (after fresh cs)
+  pub settings-stay : (s : State) (c : Call) → step s c .next .settings ≡ s .settings
 
 -- 2. A refusal is given where its condition holds and none before it in the order does, and at no other time; it changes nothing.
 pub record Refusals : Type 0 where
@@ -30,14 +30,14 @@ abbrev pub Messages : Type 0
 Messages = (m : ℕ) (cs : List Call) → sent m fresh cs ≡ length (after fresh cs .box m) + gone m fresh cs
 
 -- 4. Demand 3, for every p that is ready in a state that calls lead to from fresh, however it came to be, whatever is called then (cs).
--- Nothing about `slice` is used but that it is at least 1.
+-- The slice is the state's: 3 in fresh, and no call changes it (1). Nothing of it is used but that it is at least 1.
 pub record Fair (s : State) (p : ℕ) : Type 0 where
   -- "sees at most 3 k ticks fall while its class runs before it runs or is stopped", k of its class being ahead of it
-  pub few-ticks : (cs : List Call) → ticksSeen p s cs ≤ slice * countAhead (s .procs) p
+  pub few-ticks : (cs : List Call) → ticksSeen p s cs ≤ s .settings .slice * countAhead (s .procs) p
   -- nobody who is not ahead of it runs as one of its class before it
   pub nobody-passes : (x : ℕ) (cs : List Call) → isAhead (s .procs) p x ≡ false → turnsBefore x p s cs ≡ 0
   -- "and nobody who joins the rear after it runs from there before it": x has joined the rear, p stands before it
-  pub rear-waits : (x : ℕ) (l : List ℕ) (cs : List Call) → s .procs .queue (s .procs .class p) ≡ l ++ (x ∷ []) → 1 ≤ occurs p l → turnsBefore x p s cs ≡ 0
+  pub rear-waits : (x : ℕ) (l : List ℕ) (cs : List Call) → s .procs .queue (level (s .procs) p) ≡ l ++ (x ∷ []) → 1 ≤ occurs p l → turnsBefore x p s cs ≡ 0
 
 abbrev pub Fairness : Type 0
 Fairness = (cs : List Call) (p : ℕ) → Ready (after fresh cs .procs) p → Fair (after fresh cs) p

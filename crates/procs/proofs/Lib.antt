@@ -3,4 +3,7 @@ pub mod Held
 pub mod Choice
 pub mod Ready
 pub mod Calls
+pub mod Unused
+pub mod Kept
+pub mod Looks
 pub mod One

@@ -1,19 +1,19 @@
--- What the numbers of the struct become by each operation: the terms in which the contracts are written.
+-- What is read off the numbers of the struct, and what they become by each operation: the terms in which the contracts are written.
 -- Total: for any numbers, any process number, any class and any queue number. Assumes nothing.
 use Prim.Native.Nat.{ℕ, _-_}
-use mathlib.Core.Bool.{Bool, not, _||_}
+use mathlib.Core.Bool.{Bool, true, false, not, _||_}
 use lib.ListN.{getD, set, replicate}
 use lib.Dec.{eqb, ltb}
-use Rattle.lists.specs.Lists.{if_then_else_, put}
+use Rattle.lists.specs.Lists.{if_then_else_, put, lowest}
 use Rattle.bits.specs.Word.{width, word, bits, highest}
 use Rattle.rings.specs.Ring.{Tables}
 use Rattle.rings.specs.Moves as Rings
-use Rattle.plain.specs.Sizes.{processes, classes, queues, slice}
+use Rattle.plain.specs.Sizes.{processes, classes, queues}
 use Rattle.procs.specs.Stands.{Numbers}
 
--- 0 runs, nobody stands in a queue, every block carries zeros
+-- 0 runs, nobody stands in a queue, every block carries zeros, every number but 0 is unused
 unfoldable pub fresh : Numbers
-fresh = record { running = 0; class = replicate processes 0; ticks = replicate processes 0; tables = Rings.fresh processes queues; ready = 0 }
+fresh = record { running = 0; class = replicate processes 0; ticks = replicate processes 0; tables = Rings.fresh processes queues; ready = 0; unused = word width (λ p. not (eqb p 0)) }
 
 abbrev pub classAt : Numbers → ℕ → ℕ
 classAt k p = getD (k .class) p 0
@@ -21,19 +21,33 @@ classAt k p = getD (k .class) p 0
 abbrev pub ticksAt : Numbers → ℕ → ℕ
 ticksAt k p = getD (k .ticks) p 0
 
+abbrev pub unusedAt : Numbers → ℕ → Bool
+unusedAt k p = bits (k .unused) p
+
+abbrev pub lowestUnused : Numbers → ℕ
+lowestUnused k = lowest 0 width (bits (k .unused))
+
+-- past the last process where nobody is there
+abbrev pub firstOf : Numbers → ℕ → ℕ
+firstOf k q = Rings.first processes queues (k .tables) q
+
 -- ---- one thing changed
 
 -- p runs
 unfoldable pub runs : ℕ → Numbers → Numbers
-runs p k = record { running = p; class = k .class; ticks = k .ticks; tables = k .tables; ready = k .ready }
+runs p k = record { running = p; class = k .class; ticks = k .ticks; tables = k .tables; ready = k .ready; unused = k .unused }
 
 -- p is of class c
 unfoldable pub ranked : ℕ → ℕ → Numbers → Numbers
-ranked p c k = record { running = k .running; class = set (k .class) p c; ticks = k .ticks; tables = k .tables; ready = k .ready }
+ranked p c k = record { running = k .running; class = set (k .class) p c; ticks = k .ticks; tables = k .tables; ready = k .ready; unused = k .unused }
 
 -- p has t ticks left
 unfoldable pub timed : ℕ → ℕ → Numbers → Numbers
-timed p t k = record { running = k .running; class = k .class; ticks = set (k .ticks) p t; tables = k .tables; ready = k .ready }
+timed p t k = record { running = k .running; class = k .class; ticks = set (k .ticks) p t; tables = k .tables; ready = k .ready; unused = k .unused }
+
+-- p's bit among the unused is v
+unfoldable pub marked : ℕ → Bool → Numbers → Numbers
+marked p v k = record { running = k .running; class = k .class; ticks = k .ticks; tables = k .tables; ready = k .ready; unused = word width (put (bits (k .unused)) p v) }
 
 -- the ready bits w, that of class q as queue q is in t
 unfoldable pub noted : ℕ → Tables → ℕ → ℕ
@@ -41,7 +55,7 @@ noted q t w = if ltb q classes then word width (put (bits w) q (not (Rings.isEmp
 
 -- the queues are t, changed at queue q
 unfoldable pub requeued : ℕ → Tables → Numbers → Numbers
-requeued q t k = record { running = k .running; class = k .class; ticks = k .ticks; tables = t; ready = noted q t (k .ready) }
+requeued q t k = record { running = k .running; class = k .class; ticks = k .ticks; tables = t; ready = noted q t (k .ready); unused = k .unused }
 
 -- ---- joining and leaving a queue
 
@@ -58,9 +72,6 @@ unfoldable pub gone : ℕ → ℕ → Numbers → Numbers
 gone q p k = requeued q (Rings.leave processes queues (k .tables) p) k
 
 -- ---- who runs
-
-abbrev pub firstOf : Numbers → ℕ → ℕ
-firstOf k q = Rings.first processes queues (k .tables) q
 
 -- the first of queue q leaves it and runs
 unfoldable pub firstRuns : ℕ → Numbers → Numbers
@@ -86,48 +97,48 @@ isAbove p k = eqb (k .running) 0 || ltb (classAt k (k .running)) (classAt k p)
 unfoldable pub preempted : ℕ → Numbers → Numbers
 preempted p k = runs p (stoodDown k)
 
--- p gets a full slice; it runs if it is above the running one, else it joins the rear of its class
-unfoldable pub readied : ℕ → Numbers → Numbers
-readied p k =
-    let full : Numbers = timed p slice k in
+-- p gets a full slice, n ticks; it runs if it is above the running one, else it joins the rear of its class
+unfoldable pub readied : ℕ → ℕ → Numbers → Numbers
+readied n p k =
+    let full : Numbers = timed p n k in
     if isAbove p k then preempted p full else joined (classAt k p) p full
 
--- ---- the operations made of these
+-- ---- the operations made of these, n ticks to a slice
 
--- p becomes a process of class c and is made ready
-unfoldable pub created : ℕ → ℕ → Numbers → Numbers
-created p c k = readied p (ranked p c k)
+-- p becomes a process of class c and is made ready, and its number is no longer unused
+unfoldable pub created : ℕ → ℕ → ℕ → Numbers → Numbers
+created n p c k = marked p false (readied n p (ranked p c k))
 
 -- the first of queue q leaves it and is made ready; nothing changes where the queue is empty
-unfoldable pub woken : ℕ → Numbers → Numbers
-woken q k =
+unfoldable pub woken : ℕ → ℕ → Numbers → Numbers
+woken n q k =
     let w : ℕ = firstOf k q in
-    if ltb w processes then readied w (gone q w k) else k
+    if ltb w processes then readied n w (gone q w k) else k
 
 -- the running process joins the rear of queue q with a full slice, and one is chosen
-unfoldable pub wentTo : ℕ → Numbers → Numbers
-wentTo q k = chosen (joined q (k .running) (timed (k .running) slice k))
+unfoldable pub wentTo : ℕ → ℕ → Numbers → Numbers
+wentTo n q k = chosen (joined q (k .running) (timed (k .running) n k))
 
 -- the running process joins the rear of its class
-unfoldable pub yielded : Numbers → Numbers
-yielded k = wentTo (classAt k (k .running)) k
+unfoldable pub yielded : ℕ → Numbers → Numbers
+yielded n k = wentTo n (classAt k (k .running)) k
 
 -- the running process joins the rear of class c, if it is of another
-unfoldable pub regraded : ℕ → Numbers → Numbers
-regraded c k =
+unfoldable pub regraded : ℕ → ℕ → Numbers → Numbers
+regraded n c k =
     let r : ℕ = k .running in
-    if eqb c (classAt k r) then k else wentTo c (ranked r c k)
+    if eqb c (classAt k r) then k else wentTo n c (ranked r c k)
 
 -- the running process, if it is not 0, has one tick less; with none left it yields
-unfoldable pub ticked : Numbers → Numbers
-ticked k =
+unfoldable pub ticked : ℕ → Numbers → Numbers
+ticked n k =
     let r : ℕ = k .running in
     let t : ℕ = ticksAt k r in
-    if eqb r 0 then k else (if ltb 1 t then timed r (t - 1) k else yielded k)
+    if eqb r 0 then k else (if ltb 1 t then timed r (t - 1) k else yielded n k)
 
--- p leaves its queue, and its block carries zeros
+-- p leaves its queue, its block carries zeros, and its number is unused
 unfoldable pub removed : ℕ → Numbers → Numbers
-removed p k = timed p 0 (ranked p 0 (gone (classAt k p) p k))
+removed p k = timed p 0 (ranked p 0 (gone (classAt k p) p (marked p true k)))
 
 -- and one is chosen if p ran
 unfoldable pub halted : ℕ → Numbers → Numbers

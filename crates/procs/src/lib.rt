@@ -1,18 +1,20 @@
-// Who runs: the process queues, each process's class and ticks left, and a bit for each class that has someone ready.
+// Who runs: the process queues, each process's class and ticks left, a bit for each class that has someone ready, and a bit for each number
+// that is unused.
 // Every function answers for every struct and every number: a number that names no process has no entry and joins no queue.
 ghost use mathlib.Core.Path.{_≡_};
+ghost use mathlib.Core.Bool.{true, false};
 ghost use lib.ListN.{getD, set};
 ghost use Rattle.queues.specs.Queue.{tablesOf};
 ghost use Rattle.procs.specs.Stands.{numbers};
-ghost use Rattle.procs.specs.Moves.{fresh, runs, ranked, timed, requeued, joined, fronted, gone, firstRuns, chosen, stoodDown, isAbove, preempted, readied, created, woken, wentTo, yielded, regraded, ticked, removed, halted};
-use queues::Pid;
+ghost use Rattle.procs.specs.Moves.{unusedAt, lowestUnused, firstOf, fresh, runs, ranked, timed, marked, requeued, joined, fronted, gone, firstRuns, chosen, stoodDown, isAbove, preempted, readied, created, woken, wentTo, yielded, regraded, ticked, removed, halted};
 use queues::Queues;
+use sizes::Pid;
 
 const PROCESSES: u8 = sizes::PROCESSES as u8;
 
 const CLASSES: u32 = sizes::CLASSES as u32;
 
-const SLICE: u8 = sizes::SLICE as u8;
+const ALL_BUT_0: u32 = 4294967294;
 
 pub struct Procs {
     pub running: Pid,
@@ -20,6 +22,7 @@ pub struct Procs {
     pub ticks: [u8; sizes::PROCESSES],
     pub queues: Queues,
     pub ready: u32,
+    pub unused: u32,
 }
 
 // What a table, of classes or of ticks, has for p; 0 where p is no process.
@@ -57,7 +60,30 @@ impl Procs {
             ticks: zeros,
             queues: empty,
             ready: 0,
+            unused: ALL_BUT_0,
         }
+    }
+
+    // Whether p is a number that the next process may get.
+    pub fn is_unused(self, p: u32) -> bool
+        ensures { λ r. ⌜ r ≡ unusedAt (numbers self) p ⌝ }
+    {
+        bits::has_bit(self.unused, p)
+    }
+
+    // The number that the next process gets, or 32 where none is unused.
+    pub fn lowest_unused(self) -> u32
+        ensures { λ r. ⌜ r ≡ lowestUnused (numbers self) ⌝ }
+    {
+        bits::lowest_bit(self.unused)
+    }
+
+    // The first of queue q; where it is empty, a number that is no process.
+    pub fn first(self, q: u32) -> Pid
+        ensures { λ r. ⌜ r .0 ≡ firstOf (numbers self) q ⌝ }
+    {
+        let t = self.queues;
+        t.first(q)
     }
 
     fn run(mut self, p: Pid) -> Procs
@@ -82,6 +108,22 @@ impl Procs {
         let t = self.ticks;
         let u = with_entry(t, p, n);
         self.ticks = u;
+        self
+    }
+
+    // p's number is no longer unused.
+    fn claim(mut self, p: Pid) -> Procs
+        ensures { λ r. ⌜ numbers r ≡ marked (p .0) false (numbers self) ⌝ }
+    {
+        self.unused = bits::without_bit(self.unused, p.0 as u32);
+        self
+    }
+
+    // p's number is unused again.
+    fn give_back(mut self, p: Pid) -> Procs
+        ensures { λ r. ⌜ numbers r ≡ marked (p .0) true (numbers self) ⌝ }
+    {
+        self.unused = bits::with_bit(self.unused, p.0 as u32);
         self
     }
 
@@ -131,8 +173,7 @@ impl Procs {
     fn run_first(self, q: u32) -> Procs
         ensures { λ r. ⌜ numbers r ≡ firstRuns q (numbers self) ⌝ }
     {
-        let t = self.queues;
-        let p = t.first(q);
+        let p = self.first(q);
         self.leave(q, p).run(p)
     }
 
@@ -182,10 +223,10 @@ impl Procs {
     }
 
     // p, who stands nowhere, gets a full slice. It runs if its class is above the running one's or 0 runs, else it joins the rear of its class.
-    pub fn make_ready(self, p: Pid) -> Procs
-        ensures { λ r. ⌜ numbers r ≡ readied (p .0) (numbers self) ⌝ }
+    pub fn make_ready(self, p: Pid, slice: u8) -> Procs
+        ensures { λ r. ⌜ numbers r ≡ readied slice (p .0) (numbers self) ⌝ }
     {
-        let full = self.set_ticks(p, SLICE);
+        let full = self.set_ticks(p, slice);
         if self.is_above(p) {
             return full.preempt(p);
         }
@@ -195,56 +236,55 @@ impl Procs {
     }
 
     // p, who is unused, becomes a process of a class and is made ready.
-    pub fn create(self, p: Pid, class: u8) -> Procs
-        ensures { λ r. ⌜ numbers r ≡ created (p .0) class (numbers self) ⌝ }
+    pub fn create(self, p: Pid, class: u8, slice: u8) -> Procs
+        ensures { λ r. ⌜ numbers r ≡ created slice (p .0) class (numbers self) ⌝ }
     {
-        self.set_class(p, class).make_ready(p)
+        self.set_class(p, class).make_ready(p, slice).claim(p)
     }
 
     // The first of queue q leaves it and is made ready; where nobody stands there, nothing changes.
-    pub fn wake(self, q: u32) -> Procs
-        ensures { λ r. ⌜ numbers r ≡ woken q (numbers self) ⌝ }
+    pub fn wake(self, q: u32, slice: u8) -> Procs
+        ensures { λ r. ⌜ numbers r ≡ woken slice q (numbers self) ⌝ }
     {
-        let t = self.queues;
-        let w = t.first(q);
+        let w = self.first(q);
         if w.0 >= PROCESSES {
             return self;
         }
-        self.leave(q, w).make_ready(w)
+        self.leave(q, w).make_ready(w, slice)
     }
 
     // The running process joins the rear of queue q with a full slice, and one is chosen.
-    pub fn go_to(self, q: u32) -> Procs
-        ensures { λ r. ⌜ numbers r ≡ wentTo q (numbers self) ⌝ }
+    pub fn go_to(self, q: u32, slice: u8) -> Procs
+        ensures { λ r. ⌜ numbers r ≡ wentTo slice q (numbers self) ⌝ }
     {
         let p = self.running;
-        self.set_ticks(p, SLICE).join_rear(q, p).choose()
+        self.set_ticks(p, slice).join_rear(q, p).choose()
     }
 
     // The running process joins the rear of its class with a full slice, and one is chosen.
-    pub fn yield_now(self) -> Procs
-        ensures { λ r. ⌜ numbers r ≡ yielded (numbers self) ⌝ }
+    pub fn yield_now(self, slice: u8) -> Procs
+        ensures { λ r. ⌜ numbers r ≡ yielded slice (numbers self) ⌝ }
     {
         let class = self.class;
         let c = entry(class, self.running);
-        self.go_to(c as u32)
+        self.go_to(c as u32, slice)
     }
 
     // The running process changes to class c: if it is of another, it joins the rear there with a full slice, and one is chosen.
-    pub fn change_class(self, c: u8) -> Procs
-        ensures { λ r. ⌜ numbers r ≡ regraded c (numbers self) ⌝ }
+    pub fn change_class(self, c: u8, slice: u8) -> Procs
+        ensures { λ r. ⌜ numbers r ≡ regraded slice c (numbers self) ⌝ }
     {
         let p = self.running;
         let class = self.class;
         if c == entry(class, p) {
             return self;
         }
-        self.set_class(p, c).go_to(c as u32)
+        self.set_class(p, c).go_to(c as u32, slice)
     }
 
     // The running process, if it is not 0, has one tick less; with none left it yields.
-    pub fn tick(self) -> Procs
-        ensures { λ r. ⌜ numbers r ≡ ticked (numbers self) ⌝ }
+    pub fn tick(self, slice: u8) -> Procs
+        ensures { λ r. ⌜ numbers r ≡ ticked slice (numbers self) ⌝ }
     {
         let p = self.running;
         if p.0 == 0 {
@@ -255,16 +295,19 @@ impl Procs {
         if n > 1 {
             return self.set_ticks(p, n - 1);
         }
-        self.yield_now()
+        self.yield_now(slice)
     }
 
-    // p leaves its queue, and its block carries zeros.
+    // p leaves its queue, its block carries zeros, and its number is unused.
     fn remove(self, p: Pid) -> Procs
         ensures { λ r. ⌜ numbers r ≡ removed (p .0) (numbers self) ⌝ }
     {
         let class = self.class;
         let c = entry(class, p);
-        self.leave(c as u32, p).set_class(p, 0).set_ticks(p, 0)
+        self.give_back(p)
+            .leave(c as u32, p)
+            .set_class(p, 0)
+            .set_ticks(p, 0)
     }
 
     // p leaves its place and becomes unused; one is chosen if it ran.

@@ -1,7 +1,7 @@
--- Every message that is held stands whole in the store: kept by every call, with what a send writes.
+-- Every message that is held stands whole in the store, with what a call writes, and a room shows the message in hand.
 -- Assumes nothing.
 use Prim.Native.Nat.{ℕ, zero, suc, _+_, _*_, _≤_, _<_}
-use mathlib.Core.Bool.{true, false, true≢false}
+use mathlib.Core.Bool.{false}
 use mathlib.Core.List.{List, [], _∷_, _++_}
 use mathlib.Core.Logic.{_≢_, ⊎-elim}
 use mathlib.Core.Option.{Option, none, some}
@@ -9,8 +9,9 @@ use mathlib.Core.Path.{_≡_, refl, sym, _∙_, subst}
 use native.Mathlib.Nat.{mul-le-mul-left}
 use native.Mathlib.Omega.{arith}
 use lib.Dec.{eqb}
-use lib.ListN.{length}
-use borrow.Author.Tests.{eq-eqb, eqb-true, eqb-false, ltb-false}
+use lib.ListN.{length, drop}
+use lib.Seq.{take-append-seam}
+use borrow.Author.Tests.{eqb-true, eqb-false, ltb-false}
 use Rattle.lists.proofs.Laws.{put-cases, one-same, total-at, le?, lowest-passes}
 use Rattle.lists.specs.Lists.{put, one, occurs, lowest}
 use Rattle.plain.specs.Calls as Plain
@@ -18,10 +19,11 @@ use Rattle.plain.specs.Calls.{create, stop, end, yield, class, tick, send, rece
 use Rattle.plain.specs.Sizes.{processes, mailboxes, buffers, bufferSize, storeSize, longest, atMailbox, atSemaphore}
 use Rattle.plain.specs.Sound.{Sound, AllShort, Short}
 use Rattle.plain.specs.State.{Message, State, fresh, buffersOf, inHand, held, free, freeBuffer}
-use Rattle.plain_laws.proofs.Calls.{judged}
 use Rattle.plain_laws.proofs.Refusals.{judge-cases, nonzero}
-use Rattle.promise.specs.Promise.{written, withStore, storeAfter, inStore, StoredAll, Stored}
-use Rattle.promise.specs.Theorems.{lendsNothing}
+use Rattle.plain_laws.specs.History.{Passed}
+use Rattle.promise.specs.Lent.{Lent, lends}
+use Rattle.promise.specs.Promise.{written, storeAfter, roomAfter, inStore, StoredAll, Stored}
+use Rattle.promise.specs.Theorems.{shown}
 use Rattle.promise.proofs.Buffers.{anew-long, anew-there, other-kept}
 
 pub fresh-stored : (store : List ℕ) → length store ≡ storeSize → Stored store fresh
@@ -45,47 +47,25 @@ module _ (store : List ℕ) (s : State) (k : Stored store s) where
         (put-cases (λ (a : Option Message). inStore store a ≡ Plain.bytesIn a) (s .hand) p none q (λ d. refl) (λ d. k .in-hands q));
   }
 
-  fetched : (m : ℕ) (l : List Message) → s .box m ≡ l → Stored store (Plain.fetch m l s .next)
-  fetched m [] e = moved (Plain.fetch m [] s .next) refl refl
+  fetched : (m : ℕ) (l : List Message) → s .box m ≡ l → (Plain.fetch m l s .message ≡ []) × Stored store (Plain.fetch m l s .next)
+  fetched m [] e = (refl, moved (Plain.fetch m [] s .next) refl refl)
   fetched m (x ∷ l) e =
-      let was : StoredAll store (x ∷ l) = subst (StoredAll store) e (k .queued m) in
-      record {
-        long = k .long;
-        queued = λ i. put-cases (StoredAll store) (s .box) m l i (λ d. was .1) (λ d. k .queued i);
-        in-hands = λ q. put-cases (λ (a : Option Message). inStore store a ≡ Plain.bytesIn a) (s .hand) (Plain.caller s) (some x) q (λ d. was .0) (λ d. k .in-hands q);
-      }
+      let was : StoredAll store (x ∷ l) = subst (StoredAll store) e (k .queued m) in (
+        refl,
+        record {
+          long = k .long;
+          queued = λ i. put-cases (StoredAll store) (s .box) m l i (λ d. was .1) (λ d. k .queued i);
+          in-hands = λ q. put-cases (λ (a : Option Message). inStore store a ≡ Plain.bytesIn a) (s .hand) (Plain.caller s) (some x) q (λ d. was .0) (λ d. k .in-hands q);
+        },
+      )
 
   woken : (i : ℕ) (l : List ℕ) → Stored store (Plain.wake i l s)
   woken i [] = moved (Plain.wake i [] s) refl refl
   woken i (w ∷ l) = moved (Plain.wake i (w ∷ l) s) refl refl
 
-  lowered : (i n : ℕ) → Stored store (Plain.lower i n s .next)
-  lowered i zero = moved (Plain.lower i zero s .next) refl refl
-  lowered i (suc n) = moved (Plain.lower i (suc n) s .next) refl refl
-
--- a call that is lent nothing
-performed : (store : List ℕ) (s : State) (c : Plain.Call) → lendsNothing c ≡ true → Stored store s → Stored store (Plain.perform s c .next)
-unfolding Plain.perform
-performed store s (create c) n k = moved store s k _ refl refl
-performed store s (stop p) n k = let-go store s k p _ refl refl
-performed store s end n k = let-go store s k (Plain.caller s) _ refl refl
-performed store s yield n k = moved store s k _ refl refl
-performed store s (class c) n k = moved store s k _ refl refl
-performed store s tick n k = moved store s k _ refl refl
-performed store s (send m b) n k = absurd (true≢false (sym n))
-performed store s (receive m) n k = fetched store s k m (s .box m) refl
-performed store s (read room) n k = absurd (true≢false (sym n))
-performed store s release n k = let-go store s k (Plain.caller s) _ refl refl
-performed store s (signal i) n k = woken store s k i (s .procs .queue (atSemaphore i))
-performed store s (wait i) n k = lowered store s k i (s .count i)
-
-pub step-stored : (store : List ℕ) (s : State) (c : Plain.Call) → lendsNothing c ≡ true → Stored store s → Stored store (Plain.step s c .next)
-unfolding Plain.step
-step-stored store s c n k = judged (Stored store) (Plain.refusals s c) s (Plain.perform s c) k (λ p. performed store s c n k)
-
-pub read-stored : (store : List ℕ) (s : State) (room : ℕ) → Stored store s → Stored store (Plain.step s (read room) .next)
-unfolding Plain.step Plain.perform
-read-stored store s room k = judged (Stored store) (Plain.refusals s (read room)) s (Plain.perform s (read room)) k (λ p. k)
+  claimed : (i n : ℕ) → (Plain.claim i n s .message ≡ []) × Stored store (Plain.claim i n s .next)
+  claimed i zero = (refl, moved (Plain.claim i zero s .next) refl refl)
+  claimed i (suc n) = (refl, moved (Plain.claim i (suc n) s .next) refl refl)
 
 -- ---- a send
 
@@ -133,7 +113,7 @@ module _ (s : State) (k : Sound s) (b : ℕ) (none-holds : held (s .box) (s .han
 
   pub in-no-hand : (p : ℕ) → occurs b (inHand (s .hand p)) ≡ 0
   unfolding held
-  in-no-hand p = ⊎-elim (λ h. rw (k .unused-hands p (k .seated .nobody-else p h)) refl) (λ h. omega (arith, total-at processes (λ i. occurs b (inHand (s .hand i))) p h)) (le? processes p)
+  in-no-hand p = ⊎-elim (λ h. rw (k .hands .unused p (k .seated .nobody-else p h)) refl) (λ h. omega (arith, total-at processes (λ i. occurs b (inHand (s .hand i))) p h)) (le? processes p)
 
 module _ (store : List ℕ) (s : State) (k : Sound s) (st : Stored store s) (m : ℕ) (b : List ℕ) (short : length b ≤ longest) (some-free : eqb (freeBuffer s) buffers ≡ false) where
   abbrev i : ℕ
@@ -172,12 +152,39 @@ module _ (store : List ℕ) (s : State) (k : Sound s) (st : Stored store s) (m :
     in-hands = λ q. put-cases (λ (a : Option Message). inStore (written store i b) a ≡ Plain.bytesIn a) (s .hand) w (some (record { buffer = i; bytes = b })) q (λ d. there) (λ d. hands-kept q);
   }
 
--- the store after a send, accepted or not, holds what is held then
-pub send-stored : (store : List ℕ) (s : State) (m : ℕ) (b : List ℕ) → Sound s → Stored store s
-    → Stored (storeAfter store (withStore store (send m b) s) s b) (withStore store (send m b) s .next)
-unfolding withStore Plain.step Plain.perform Plain.refusals
-send-stored store s m b k st =
-    rw (eq-eqb (length store) storeSize (st .long))
-    (judge-cases (λ (o : Plain.Outcome). Stored (storeAfter store o s b) (o .next)) (Plain.refusals s (send m b)) s (Plain.perform s (send m b)) (nonzero s (send m b))
-    (λ r e. rw e st)
-    (λ p. delivered store s k st m b (ltb-false longest (length b) (p .1 .0)) (p .1 .1 .1 .0) (s .procs .queue (atMailbox m))))
+-- ---- every call
+
+-- What comes of what a call is lent: the store, written or not, holds what is held then, and bytes are shown in a room only, those of the message in hand.
+abbrev pub Kept : List ℕ → State → Lent → Plain.Outcome → Type 0
+Kept store s Lent.nothing o = (o .message ≡ []) × Stored store (o .next)
+Kept store s (Lent.bytes b) o = (o .message ≡ []) × Stored (storeAfter store o s b) (o .next)
+Kept store s (Lent.room n) o = ((room : List ℕ) → shown (o .answer) (roomAfter store room o s) ≡ o .message) × Stored store (o .next)
+
+module _ (store : List ℕ) (s : State) (k : Sound s) (st : Stored store s) where
+  refused-kept : (l : Lent) (r : Plain.Refusal) → eqb (r .code) 0 ≡ false → Kept store s l (Plain.refused r s)
+  refused-kept Lent.nothing r e = (refl, st)
+  refused-kept (Lent.bytes b) r e = (refl, rw e st)
+  refused-kept (Lent.room n) r e = (λ room. rw e refl, st)
+
+  performed : (c : Plain.Call) → Passed (Plain.refusals s c) → Kept store s (lends c) (Plain.perform s c)
+  unfolding Plain.perform Plain.refusals
+  performed (create c) p = (refl, moved store s st _ refl refl)
+  performed (stop i) p = (refl, let-go store s st i _ refl refl)
+  performed end p = (refl, let-go store s st (Plain.caller s) _ refl refl)
+  performed yield p = (refl, moved store s st _ refl refl)
+  performed (class c) p = (refl, moved store s st _ refl refl)
+  performed tick p = (refl, moved store s st _ refl refl)
+  performed (send m b) p = (refl, delivered store s k st m b (ltb-false longest (length b) (p .1 .0)) (p .1 .1 .1 .0) (s .procs .queue (atMailbox m)))
+  performed (receive m) p = fetched store s st m (s .box m) refl
+  performed (read n) p =
+      let m : List ℕ = Plain.bytesIn (Plain.hand s) in
+      (λ room. rw (st .in-hands (Plain.caller s)) (take-append-seam m (drop (length m) room)), st)
+  performed release p = (refl, let-go store s st (Plain.caller s) _ refl refl)
+  performed (signal i) p = (refl, woken store s st i (s .procs .queue (atSemaphore i)))
+  performed (wait i) p = claimed store s st i (s .count i)
+
+  pub step-kept : (c : Plain.Call) {l : Lent} → lends c ≡ l → Kept store s l (Plain.step s c)
+  unfolding Plain.step
+  step-kept c is =
+      subst (λ (l : Lent). Kept store s l (Plain.step s c)) is
+      (judge-cases (Kept store s (lends c)) (Plain.refusals s c) s (Plain.perform s c) (nonzero s c) (λ r e. refused-kept (lends c) r e) (performed c))

@@ -1,7 +1,10 @@
 // The process queues: rings of links in two tables. The tables may hold anything: where a link leads past the last node, nothing changes.
 // Each move has one return at its end: a second one would cost several copies of the tables.
+ghost use mathlib.Core.Path.{_≡_};
+ghost use mathlib.Core.List.{map};
 ghost use Rattle.rings.specs.Moves.{MadeFresh, JoinedRear, JoinedFront, HasLeft, IsFirst, SaysEmpty};
-ghost use Rattle.queues.specs.Queue.{processes, queues, tablesOf};
+ghost use Rattle.queues.specs.Queue.{processes, queues, num, tablesOf};
+use sizes::Pid;
 
 const PROCESSES: u8 = sizes::PROCESSES as u8;
 
@@ -9,13 +12,24 @@ const QUEUES: u32 = sizes::QUEUES as u32;
 
 const NODES: usize = sizes::PROCESSES + sizes::QUEUES;
 
-// A node of a ring: a process, or the head of queue q, at PROCESSES + q.
-pub struct Pid(pub u8);
-
-// The node after each node, and the node before it. A process in no queue is linked to itself.
+// The node after each node, and the node before it: a node is a process, or the head of queue q, at PROCESSES + q. A process in no queue is linked to itself.
 pub struct Queues {
     pub next: [Pid; NODES],
     pub prev: [Pid; NODES],
+}
+
+// The links as bytes, to be lent.
+pub fn bytes_of(links: [Pid; NODES]) -> [u8; NODES]
+    ensures { λ r. ⌜ r ≡ map num links ⌝ }
+{
+    let mut bytes = [0u8; NODES];
+    let mut n = 0;
+    while n < NODES {
+        let p = links[n];
+        bytes[n] = p.0;
+        n += 1;
+    }
+    bytes
 }
 
 impl Queues {

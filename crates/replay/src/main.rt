@@ -9,20 +9,17 @@ ghost use Rattle.desk.specs.Line.{Line};
 ghost use Rattle.desk.specs.Theorems.{longestText};
 ghost use Rattle.replay.specs.Sizes.{outSize, Sized};
 ghost use Rattle.replay.specs.Lines.{FirstNewline, Holds};
+use desk::LONGEST_TEXT;
 use desk::Turn;
 use kernel::Kernel;
 use libc::STDIN_FILENO;
 use libc::STDOUT_FILENO;
+use script::LONGEST_LINE;
 
 const NEWLINE: u8 = b'\n';
 
-const LONGEST_LINE: usize = 1300;
-
 // Stands for the length of a line that is over the longest.
 const TOO_LONG: usize = LONGEST_LINE + 1;
-
-// An answer without its newline: three numbers, three spaces, a dash, and the hex pairs of 512 bytes.
-const LONGEST_TEXT: usize = 34 + 2 * 512;
 
 const OUT_SIZE: usize = 65536;
 

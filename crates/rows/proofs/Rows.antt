@@ -50,8 +50,8 @@ module _ {k : Kernel} {s : State} (H : Holds k s) (p : ℕ) where
   with-is : (x : Spot) → rowWith k p x ≡ shown (Plain.rowAs s p (x .place) (x .which) (x .position))
   unfolding rowWith
   with-is x =
-      let c = H .procs .class p in
-      let t = H .procs .ticks p in
+      let c = H .procs .stands .class p in
+      let t = H .procs .stands .ticks p in
       let f = ap bit (has-message (H .mail) p) ∙ bit-full (isEmpty (s .hand p)) in
       let n = length-in-hand (H .mail) p in
       λ i. record { place = x .place; which = x .which; position = x .position; class = c i; ticks = t i; full = f i; length = n i }
@@ -61,8 +61,8 @@ module _ {k : Kernel} {s : State} (H : Holds k s) (p : ℕ) where
   queue-is : (q : ℕ) → 1 ≤ occurs p (s .procs .queue q) → queueOf s p ≡ q
   unfolding queueOf
   queue-is q o =
-      lowest-is 0 queues q (λ i. ltb 0 (occurs p (s .procs .queue i))) (omega arith) (in-range (H .procs .queues) q p o) (lt-ltb 0 (occurs p (s .procs .queue q)) o)
-      (λ j a b. le-ltb 0 (occurs p (s .procs .queue j)) (⊎-elim (λ u. absurd (omega (arith, one-queue (H .procs .queues) j q p u o))) (λ u. omega arith) (le? 1 (occurs p (s .procs .queue j)))))
+      lowest-is 0 queues q (λ i. ltb 0 (occurs p (s .procs .queue i))) (omega arith) (in-range (H .procs .stands .queues) q p o) (lt-ltb 0 (occurs p (s .procs .queue q)) o)
+      (λ j a b. le-ltb 0 (occurs p (s .procs .queue j)) (⊎-elim (λ u. absurd (omega (arith, one-queue (H .procs .stands .queues) j q p u o))) (λ u. omega arith) (le? 1 (occurs p (s .procs .queue j)))))
 
   queue-none : Absent p (s .procs .queue) → queueOf s p ≡ queues
   unfolding queueOf
@@ -93,9 +93,9 @@ module _ {k : Kernel} {s : State} (H : Holds k s) (p : ℕ) where
   resting : p < processes → rowWith k p (spotAt (back (Stands.numbers (k .procs) .tables .prev) processes (prevAt (Stands.numbers (k .procs) .tables) p) 0)) ≡ shown (Plain.rowIn s p (queueOf s p))
   unfolding spotAt
   resting h = ⊎-elim
-      (λ w. rw (back-to-head (H .procs .queues) p (w .0) (w .2), queue-is (w .0) (w .2)) (at-head (w .0)))
-      (λ a. rw (queue-none a, back-alone (H .procs .queues) p a h, lt-ltb p processes h) (with-is nowhere))
-      (placed (H .procs .queues) p)
+      (λ w. rw (back-to-head (H .procs .stands .queues) p (w .0) (w .2), queue-is (w .0) (w .2)) (at-head (w .0)))
+      (λ a. rw (queue-none a, back-alone (H .procs .stands .queues) p a h, lt-ltb p processes h) (with-is nowhere))
+      (placed (H .procs .stands .queues) p)
     where
       at-head : (q : ℕ) → rowWith k p (spotAt (record { node = processes + q; passed = ahead p (s .procs .queue q) })) ≡ shown (Plain.rowIn s p q)
       at-head q = let e : processes + q - processes ≡ q = omega arith in rw (le-ltb (processes + q) processes (omega arith), e) (in-is q)
@@ -103,13 +103,13 @@ module _ {k : Kernel} {s : State} (H : Holds k s) (p : ℕ) where
 module _ {k : Kernel} {s : State} (H : Holds k s) where
   runner : k .procs .running .0 ≡ s .procs .running
   unfolding Stands.numbers
-  runner = H .procs .running
+  runner = H .procs .stands .running
 
   not-null : (p : ℕ) → p < processes → rowWith k p (spotOf (Stands.numbers (k .procs)) p) ≡ shown (if eqb p (s .procs .running) then Plain.rowAs s p 1 (s .procs .class p) 0 else Plain.rowIn s p (queueOf s p))
   unfolding spotOf
   not-null p h = ⊎-elim
-      (λ (e : p ≡ s .procs .running). rw (H .procs .running, eq-eqb p (s .procs .running) e, H .procs .class p) (with-is H p (spot 1 (s .procs .class p) 0)))
-      (λ (d : p ≢ s .procs .running). rw (H .procs .running, ne-eqb p (s .procs .running) d) (resting H p h))
+      (λ (e : p ≡ s .procs .running). rw (H .procs .stands .running, eq-eqb p (s .procs .running) e, H .procs .stands .class p) (with-is H p (spot 1 (s .procs .class p) 0)))
+      (λ (d : p ≢ s .procs .running). rw (H .procs .stands .running, ne-eqb p (s .procs .running) d) (resting H p h))
       (same? p (s .procs .running))
 
   -- the row of each process

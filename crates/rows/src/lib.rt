@@ -15,7 +15,7 @@ use kernel::Kernel;
 use mail::Mail;
 use procs::Procs;
 use procs::entry;
-use queues::Pid;
+use sizes::Pid;
 
 const PROCESSES: u8 = sizes::PROCESSES as u8;
 
@@ -188,7 +188,7 @@ fn bare(place: u8) -> Row
 fn length_in_hand(mail: Mail, p: Pid) -> u16
     ensures { λ r. ⌜ r ≡ lengthInHand (Carries.numbers mail) (p .0) ⌝ }
 {
-    mail.length_in_hand(p.0 as u32) as u16
+    mail.length_in_hand(p) as u16
 }
 
 // The row of p, who stands there.
@@ -205,7 +205,7 @@ fn row_with(k: Kernel, p: Pid, s: Spot) -> Row
         position: s.position,
         class: entry(class, p),
         ticks: entry(ticks, p),
-        full: bit(mail.has_message(p.0 as u32)),
+        full: bit(mail.has_message(p)),
         length: length_in_hand(mail, p),
     }
 }

@@ -8,12 +8,13 @@ use mathlib.Core.Option.{Option, none, some}
 use lib.ListN.{length}
 use lib.Seq.{take-append-seam}
 use Rattle.plain.specs.Calls.{Call, create, stop, end, yield, class, tick, send, receive, read, release, signal, wait}
-use Rattle.script.specs.Grammar.{words, call, message, sentence}
-use Rattle.script.specs.Request.{means, requestOf, Tells}
-use Rattle.script.specs.Promises.{firstSpace, bytesOf}
+use Rattle.script.specs.Grammar.{words, given, sentence, call}
+use Rattle.script.specs.Request.{means, asking, requestOf, Tells}
+use Rattle.script.specs.Promises.{firstSpace, bytesOf, carried}
 use Rattle.script.specs.declared.calls.Request.{Request}
+use Rattle.script.specs.declared.calls.Word.{Word}
 use Rattle.script.specs.declared.hex.Bytes.{Bytes}
-use Rattle.script.proofs.LimitLaws.{call-limited}
+use Rattle.script.proofs.LimitLaws.{call-limited, room-fits}
 use Rattle.script.proofs.WordLaws.{rest, words-cut, words-begin}
 
 -- a third space makes a fourth word, which no call has
@@ -22,21 +23,19 @@ sentence-four w m l h =
     let more = words-begin (rest l (firstSpace l + 1)) in
     rw (words-cut l _ refl h, more .whole)
 
--- what the answer of the reading of bytes tells
-module _ (o : Option (List ℕ)) (r : Bytes) (answer : r ≡ bytesOf o) where
-  pub bytes-bad : r .good ≡ false → o ≡ none
-  bytes-bad e = go o answer
-    where
-      go : (p : Option (List ℕ)) → r ≡ bytesOf p → p ≡ none
-      go none a = refl
-      go (some b) a = absurd (true≢false (sym (ap (λ (x : Bytes). x .good) a) ∙ e))
+-- what the answer of the reading of bytes tells of a word that carries them
+pub bytes-bad : (w : Word) (o : Option (List ℕ)) {r : Bytes} → r ≡ bytesOf o → r .good ≡ false → carried w o ≡ requestOf none
+bytes-bad w none a e = refl
+bytes-bad w (some b) a e = absurd (true≢false (sym (ap (λ (x : Bytes). x .good) a) ∙ e))
 
-  pub bytes-good : (n : ℕ) → r .good ≡ true → _≡_ {A = Request} (record { word = 7; number = n; bytes = r .bytes; length = r .length }) (requestOf (message (some n) o))
-  bytes-good n e = go o answer
-    where
-      go : (p : Option (List ℕ)) → r ≡ bytesOf p → _≡_ {A = Request} (record { word = 7; number = n; bytes = r .bytes; length = r .length }) (requestOf (message (some n) p))
-      go none a = absurd (true≢false (sym e ∙ ap (λ (x : Bytes). x .good) a))
-      go (some b) a = ap (λ (x : Bytes). record { word = 7; number = n; bytes = x .bytes; length = x .length }) a
+pub bytes-good : (w : Word) (o : Option (List ℕ)) {r : Bytes} → r ≡ bytesOf o → r .good ≡ true → _≡_ {A = Request} (record { word = w; bytes = r .bytes; length = r .length }) (carried w o)
+bytes-good w none a e = absurd (true≢false (sym e ∙ ap (λ (x : Bytes). x .good) a))
+bytes-good w (some b) a e = ap (λ (x : Bytes). record { word = w; bytes = x .bytes; length = x .length }) a
+
+-- a word that carries any bytes carries those that were read
+pub carries : (x : Word) (f : List ℕ → Option Call) → ((b : List ℕ) → asking x b ≡ requestOf (f b)) → (o : Option (List ℕ)) → carried x o ≡ requestOf (given o f)
+carries x f h none = refl
+carries x f h (some b) = h b
 
 -- the request of a call means that call
 pub means-request : (c : Option Call) → means (requestOf c) ≡ c
@@ -62,7 +61,7 @@ tells line r e =
       meaning = meaning;
       zeros = e ∙ sym (ap requestOf meaning);
       short = rw e (limits .short);
-      room = rw e (limits .room);
+      room = λ n w. room-fits n w (rw e (limits .room));
     }
 
 -- no second request keeps the promise for a line

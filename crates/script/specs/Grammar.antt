@@ -2,6 +2,7 @@
 -- A line is the list of its bytes, without the newline. Assumes nothing.
 use Prim.Native.Nat.{ℕ, _+_, _*_, _-_}
 use Prim.Native.Char.{code}
+use Prim.Native.String.{String}
 use mathlib.Core.Bool.{Bool, true, false, _&&_}
 use mathlib.Core.List.{List, [], _∷_}
 use mathlib.Core.Option.{Option, none, some}
@@ -106,45 +107,59 @@ bytes (x ∷ l) = if same (x ∷ l) (ascii "-") then some [] else atMost mostByt
 
 -- ---- calls: "create, stop, end, yield, class, tick, send, receive, read, release, signal, wait"
 
+-- what stands beside w in a list of words, and none where w is not in it
+abbrev pub beside : List ℕ → List (String × Option Call) → Option Call
+beside w [] = none
+beside w (x ∷ l) = if same w (ascii (x .0)) then x .1 else beside w l
+
+-- what is made of what was read, where it was
+abbrev pub given : {A : Type 0} → Option A → (A → Option Call) → Option Call
+given none f = none
+given (some x) f = f x
+
 -- the words that stand alone
-abbrev pub alone : List ℕ → Option Call
-alone w =
-    if same w (ascii "end") then some end else
-    if same w (ascii "yield") then some yield else
-    if same w (ascii "tick") then some tick else
-    if same w (ascii "release") then some release else none
+abbrev pub alone : List (String × Option Call)
+alone =
+    ("end", some end)
+    ∷ ("yield", some yield)
+    ∷ ("tick", some tick)
+    ∷ ("release", some release)
+    ∷ []
 
 -- "read takes a room size up to 512"
 abbrev pub reading : ℕ → Option Call
 reading n = if leb n largestRoom then some (read n) else none
 
 -- the words that take a number
-abbrev pub numbered : List ℕ → Option ℕ → Option Call
-numbered w none = none
-numbered w (some n) =
-    if same w (ascii "create") then some (create n) else
-    if same w (ascii "stop") then some (stop n) else
-    if same w (ascii "class") then some (class n) else
-    if same w (ascii "receive") then some (receive n) else
-    if same w (ascii "read") then reading n else
-    if same w (ascii "signal") then some (signal n) else
-    if same w (ascii "wait") then some (wait n) else none
+abbrev pub numbered : ℕ → List (String × Option Call)
+numbered n =
+    ("create", some (create n))
+    ∷ ("stop", some (stop n))
+    ∷ ("class", some (class n))
+    ∷ ("receive", some (receive n))
+    ∷ ("read", reading n)
+    ∷ ("signal", some (signal n))
+    ∷ ("wait", some (wait n))
+    ∷ []
 
-abbrev pub message : Option ℕ → Option (List ℕ) → Option Call
-message none b = none
-message (some m) none = none
-message (some m) (some b) = some (send m b)
+-- the words that take a number and one thing more: "send takes a mailbox and up to 600 bytes"
+abbrev pub followed : ℕ → List ℕ → List (String × Option Call)
+followed n x =
+    ("send", given (bytes x) (λ b. some (send n b)))
+    ∷ []
 
--- "send takes a mailbox and up to 600 bytes"
-abbrev pub sending : List ℕ → Option ℕ → Option (List ℕ) → Option Call
-sending w m b = if same w (ascii "send") then message m b else none
+abbrev pub ofTwo : List ℕ → List ℕ → Option Call
+ofTwo w x = given (number x) (λ n. beside w (numbered n))
+
+abbrev pub ofThree : List ℕ → List ℕ → List ℕ → Option Call
+ofThree w x y = given (number x) (λ n. beside w (followed n y))
 
 abbrev pub sentence : List (List ℕ) → Option Call
 sentence [] = none
-sentence (w ∷ []) = alone w
-sentence (w ∷ n ∷ []) = numbered w (number n)
-sentence (w ∷ m ∷ b ∷ []) = sending w (number m) (bytes b)
-sentence (w ∷ m ∷ b ∷ x ∷ l) = none
+sentence (w ∷ []) = beside w alone
+sentence (w ∷ x ∷ []) = ofTwo w x
+sentence (w ∷ x ∷ y ∷ []) = ofThree w x y
+sentence (w ∷ x ∷ y ∷ z ∷ l) = none
 
 -- "Any other line, a blank one or one over 1,300 bytes gives `bad`": those are none.
 unfoldable pub call : List ℕ → Option Call

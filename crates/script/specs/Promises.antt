@@ -9,10 +9,12 @@ use lib.Dec.{eqb}
 use Rattle.lists.specs.Lists.{if_then_else_}
 use Rattle.answers.specs.Ascii.{space}
 use Rattle.script.specs.Grammar.{upTo, digits, highestNumber, byte, hexDigit}
-use Rattle.script.specs.Request.{padded}
+use Rattle.script.specs.Request.{padded, asking, requestOf}
 use Rattle.script.specs.declared.numbers.Number.{Number}
 use Rattle.script.specs.declared.numbers.Number.the-variants.{Is, Bad}
 use Rattle.script.specs.declared.hex.Bytes.{Bytes}
+use Rattle.script.specs.declared.calls.Word.{Word}
+use Rattle.script.specs.declared.calls.Request.{Request}
 
 -- the place of the first space, or the length where there is none
 abbrev pub firstSpace : List ℕ → ℕ
@@ -40,3 +42,8 @@ noBytes good = record { good = good; bytes = padded []; length = 0 }
 abbrev pub bytesOf : Option (List ℕ) → Bytes
 bytesOf none = noBytes false
 bytesOf (some b) = record { good = true; bytes = padded b; length = length b }
+
+-- a word with the bytes that were read, or bad where they were not
+abbrev pub carried : Word → Option (List ℕ) → Request
+carried w none = requestOf none
+carried w (some b) = asking w b

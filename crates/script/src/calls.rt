@@ -7,41 +7,36 @@ use crate::words::first_space;
 use crate::words::is_word;
 ghost use mathlib.Core.Path.{_≡_};
 ghost use mathlib.Core.List.{[], _∷_};
-ghost use mathlib.Core.Option.{none, some};
-ghost use Rattle.script.specs.Grammar.{alone, reading, numbered, message, sending, sentence, words, number, bytes};
+ghost use mathlib.Core.Option.{none};
+ghost use Rattle.script.specs.Grammar.{beside, alone, reading, numbered, followed, ofTwo, ofThree, sentence, words, bytes};
+ghost use Rattle.script.specs.Promises.{carried};
 ghost use Rattle.script.specs.Request.{asking, requestOf};
 
-// A request's word: bad, or the call's place in the paper's order.
-pub const BAD: u32 = 0;
+// A call that is lent nothing, with its numbers.
+pub enum Quiet {
+    Create(u32),
+    Stop(u32),
+    End,
+    Yield,
+    Class(u32),
+    Tick,
+    Receive(u32),
+    Release,
+    Signal(u32),
+    Wait(u32),
+}
 
-pub const CREATE: u32 = 1;
-
-pub const STOP: u32 = 2;
-
-pub const END: u32 = 3;
-
-pub const YIELD: u32 = 4;
-
-pub const CLASS: u32 = 5;
-
-pub const TICK: u32 = 6;
-
-pub const SEND: u32 = 7;
-
-pub const RECEIVE: u32 = 8;
-
-pub const READ: u32 = 9;
-
-pub const RELEASE: u32 = 10;
-
-pub const SIGNAL: u32 = 11;
-
-pub const WAIT: u32 = 12;
+// Which call a line is: none, one that is lent nothing, one that carries bytes, or one that is lent a room.
+pub enum Word {
+    Bad,
+    Call(Quiet),
+    Send(u32),
+    Read(u32),
+}
 
 // What a line asks for. The message of a send is the first length bytes; what a call does not use is zero.
 pub struct Request {
-    pub word: u32,
-    pub number: u32,
+    pub word: Word,
     pub bytes: [u8; MOST_BYTES],
     pub length: u32,
 }
@@ -49,13 +44,12 @@ pub struct Request {
 pub const LARGEST_ROOM: u32 = 512;
 
 // A request with no bytes.
-fn asking(word: u32, number: u32) -> Request
-    ensures { λ r. ⌜ r ≡ asking word number [] ⌝ }
+fn asking(word: Word) -> Request
+    ensures { λ r. ⌜ r ≡ asking word [] ⌝ }
 {
     let bytes = [0; MOST_BYTES];
     Request {
         word,
-        number,
         bytes,
         length: 0,
     }
@@ -64,86 +58,74 @@ fn asking(word: u32, number: u32) -> Request
 pub(crate) fn bad() -> Request
     ensures { λ r. ⌜ r ≡ requestOf none ⌝ }
 {
-    asking(BAD, 0)
+    asking(Word::Bad)
 }
 
-fn alone(w: &[u8]) -> Request
-    ensures { λ r. ⌜ r ≡ requestOf (alone (now (w .entry))) ⌝ }
+// The words that stand alone.
+fn alone(w: &[u8]) -> Word
+    ensures { λ r. ⌜ asking r [] ≡ requestOf (beside (now (w .entry)) alone) ⌝ }
 {
     if is_word(w, b"end") {
-        return asking(END, 0);
+        return Word::Call(Quiet::End);
     }
     if is_word(w, b"yield") {
-        return asking(YIELD, 0);
+        return Word::Call(Quiet::Yield);
     }
     if is_word(w, b"tick") {
-        return asking(TICK, 0);
+        return Word::Call(Quiet::Tick);
     }
     if is_word(w, b"release") {
-        return asking(RELEASE, 0);
+        return Word::Call(Quiet::Release);
     }
-    bad()
+    Word::Bad
 }
 
-fn reading(room: u32) -> Request
-    ensures { λ r. ⌜ r ≡ requestOf (reading room) ⌝ }
+fn reading(room: u32) -> Word
+    ensures { λ r. ⌜ asking r [] ≡ requestOf (reading room) ⌝ }
 {
     if LARGEST_ROOM < room {
-        return bad();
+        return Word::Bad;
     }
-    asking(READ, room)
+    Word::Read(room)
 }
 
-fn numbered(w: &[u8], n: u32) -> Request
-    ensures { λ r. ⌜ r ≡ requestOf (numbered (now (w .entry)) (some n)) ⌝ }
+// The words that take a number.
+fn numbered(w: &[u8], n: u32) -> Word
+    ensures { λ r. ⌜ asking r [] ≡ requestOf (beside (now (w .entry)) (numbered n)) ⌝ }
 {
     if is_word(w, b"create") {
-        return asking(CREATE, n);
+        return Word::Call(Quiet::Create(n));
     }
     if is_word(w, b"stop") {
-        return asking(STOP, n);
+        return Word::Call(Quiet::Stop(n));
     }
     if is_word(w, b"class") {
-        return asking(CLASS, n);
+        return Word::Call(Quiet::Class(n));
     }
     if is_word(w, b"receive") {
-        return asking(RECEIVE, n);
+        return Word::Call(Quiet::Receive(n));
     }
     if is_word(w, b"read") {
         return reading(n);
     }
     if is_word(w, b"signal") {
-        return asking(SIGNAL, n);
+        return Word::Call(Quiet::Signal(n));
     }
     if is_word(w, b"wait") {
-        return asking(WAIT, n);
+        return Word::Call(Quiet::Wait(n));
     }
-    bad()
+    Word::Bad
 }
 
-// A line of two words.
-fn with_number(w: &[u8], digits: &[u8]) -> Request
-    ensures { λ r. ⌜ r ≡ requestOf (numbered (now (w .entry)) (number (now (digits .entry)))) ⌝ }
+// A word with the bytes that a line spells.
+fn carried(word: Word, hex: &[u8]) -> Request
+    ensures { λ r. ⌜ r ≡ carried word (bytes (now (hex .entry))) ⌝ }
 {
-    let Number::Is(n) = read_number(digits) else {
-        return bad();
-    };
-    numbered(w, n)
-}
-
-// The send of a line of three words.
-fn message(mailbox: &[u8], hex: &[u8]) -> Request
-    ensures { λ r. ⌜ r ≡ requestOf (message (number (now (mailbox .entry))) (bytes (now (hex .entry)))) ⌝ }
-{
-    let Number::Is(number) = read_number(mailbox) else {
-        return bad();
-    };
     let read = read_bytes(hex);
     if read.good {
         let bytes = read.bytes;
         return Request {
-            word: SEND,
-            number,
+            word,
             bytes,
             length: read.length,
         };
@@ -151,13 +133,32 @@ fn message(mailbox: &[u8], hex: &[u8]) -> Request
     bad()
 }
 
-fn sending(w: &[u8], mailbox: &[u8], hex: &[u8]) -> Request
-    ensures { λ r. ⌜ r ≡ requestOf (sending (now (w .entry)) (number (now (mailbox .entry))) (bytes (now (hex .entry)))) ⌝ }
+// The words that take a number and one thing more.
+fn followed(w: &[u8], n: u32, more: &[u8]) -> Request
+    ensures { λ r. ⌜ r ≡ requestOf (beside (now (w .entry)) (followed n (now (more .entry)))) ⌝ }
 {
     if is_word(w, b"send") {
-        return message(mailbox, hex);
+        return carried(Word::Send(n), more);
     }
     bad()
+}
+
+fn of_two(w: &[u8], digits: &[u8]) -> Word
+    ensures { λ r. ⌜ asking r [] ≡ requestOf (ofTwo (now (w .entry)) (now (digits .entry))) ⌝ }
+{
+    let Number::Is(n) = read_number(digits) else {
+        return Word::Bad;
+    };
+    numbered(w, n)
+}
+
+fn of_three(w: &[u8], digits: &[u8], more: &[u8]) -> Request
+    ensures { λ r. ⌜ r ≡ requestOf (ofThree (now (w .entry)) (now (digits .entry)) (now (more .entry))) ⌝ }
+{
+    let Number::Is(n) = read_number(digits) else {
+        return bad();
+    };
+    followed(w, n, more)
 }
 
 // A line of more than one word: w, and what follows the first space.
@@ -166,15 +167,15 @@ fn two_or_three(w: &[u8], rest: &[u8]) -> Request
 {
     let end = first_space(rest);
     if end == rest.len() {
-        return with_number(w, rest);
+        return asking(of_two(w, rest));
     }
     let start = end + 1;
-    let mailbox = &rest[..end];
-    let hex = &rest[start..];
-    if first_space(hex) < hex.len() {
+    let digits = &rest[..end];
+    let more = &rest[start..];
+    if first_space(more) < more.len() {
         return bad();
     }
-    sending(w, mailbox, hex)
+    of_three(w, digits, more)
 }
 
 pub(crate) fn sentence(line: &[u8]) -> Request
@@ -182,7 +183,7 @@ pub(crate) fn sentence(line: &[u8]) -> Request
 {
     let end = first_space(line);
     if end == line.len() {
-        return alone(line);
+        return asking(alone(line));
     }
     let start = end + 1;
     two_or_three(&line[..end], &line[start..])

@@ -7,7 +7,7 @@ mod words;
 pub use calls::Request;
 ghost use Rattle.script.specs.Request.{Tells};
 
-const LONGEST_LINE: usize = 1300;
+pub const LONGEST_LINE: usize = 1300;
 
 pub fn request(line: &[u8]) -> Request
     ensures { λ r. ⌜ Tells (now (line .entry)) r ⌝ }

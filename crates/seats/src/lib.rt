@@ -1,6 +1,6 @@
 // Whether a struct holds the sound process part of a state: its queues, who runs, each process's block, and the bits of the ready classes
-// and of the unused processes. Nothing is assumed of what stands in the fields. In `at` a process has 0 if it stands in no queue, else the
-// number of its queue plus 1.
+// and of the unused processes, where a full slice has `slice` ticks. Nothing is assumed of what stands in the fields, nor of `slice`. In `at`
+// a process has 0 if it stands in no queue, else the number of its queue plus 1.
 ghost use mathlib.Core.Path.{_≡_};
 ghost use mathlib.Core.List.{map};
 ghost use Rattle.lists.specs.Lists.{put};
@@ -12,30 +12,15 @@ ghost use Rattle.procs.specs.Stands.{numbers};
 ghost use Rattle.seats.specs.Seats.{Answer};
 ghost use Rattle.seats.specs.Fits.{Found, Block, Vacant, Seat, AllSeats, readyIn, Topmost, Fits};
 use procs::Procs;
-use queues::Pid;
 use queues::Queues;
+use queues::bytes_of;
 use rings::Places;
 use sizes::PROCESSES;
+use sizes::Pid;
 
 const CLASSES: u8 = sizes::CLASSES as u8;
 
-const SLICE: u8 = sizes::SLICE as u8;
-
 const NODES: usize = sizes::PROCESSES + sizes::QUEUES;
-
-// The links as bytes.
-fn bytes_of(links: [Pid; NODES]) -> [u8; NODES]
-    ensures { λ r. ⌜ r ≡ map num links ⌝ }
-{
-    let mut bytes = [0u8; NODES];
-    let mut i = 0;
-    while i < NODES {
-        let p = links[i];
-        bytes[i] = p.0;
-        i += 1;
-    }
-    bytes
-}
 
 // Whether the links are rings, and in which queue each process then stands.
 fn places_of(queues: Queues) -> Places
@@ -49,8 +34,8 @@ fn places_of(queues: Queues) -> Places
 }
 
 // Whether a used process, which runs or stands in a queue, may have this class and these ticks.
-fn block_fits(at: u8, class: u8, ticks: u8) -> bool
-    ensures { λ r. ⌜ Says r (Block at class ticks) ⌝ }
+fn block_fits(at: u8, class: u8, ticks: u8, slice: u8) -> bool
+    ensures { λ r. ⌜ Says r (Block slice at class ticks) ⌝ }
 {
     if CLASSES <= class {
         return false;
@@ -58,7 +43,7 @@ fn block_fits(at: u8, class: u8, ticks: u8) -> bool
     if ticks < 1 {
         return false;
     }
-    if SLICE < ticks {
+    if slice < ticks {
         return false;
     }
     if at == 0 {
@@ -67,7 +52,7 @@ fn block_fits(at: u8, class: u8, ticks: u8) -> bool
     if at <= CLASSES {
         return at == class + 1;
     }
-    ticks == SLICE
+    ticks == slice
 }
 
 // Whether a process neither runs nor stands in a queue, and its block carries zeros.
@@ -87,8 +72,8 @@ fn is_vacant(at: u8, runs: bool, class: u8, ticks: u8) -> bool
 }
 
 // Whether a process is in exactly one place, and its block is as that place asks.
-fn seat_fits(at: u8, runs: bool, class: u8, ticks: u8, unused: bool) -> bool
-    ensures { λ r. ⌜ Says r (Seat at runs class ticks unused) ⌝ }
+fn seat_fits(at: u8, runs: bool, class: u8, ticks: u8, unused: bool, slice: u8) -> bool
+    ensures { λ r. ⌜ Says r (Seat slice at runs class ticks unused) ⌝ }
 {
     if unused {
         return is_vacant(at, runs, class, ticks);
@@ -96,7 +81,7 @@ fn seat_fits(at: u8, runs: bool, class: u8, ticks: u8, unused: bool) -> bool
     if runs != (at == 0) {
         return false;
     }
-    block_fits(at, class, ticks)
+    block_fits(at, class, ticks, slice)
 }
 
 // Whether every process has its seat. All are asked, with no early exit: so compiled, several at once.
@@ -106,8 +91,9 @@ fn seats_fit(
     class: [u8; PROCESSES],
     ticks: [u8; PROCESSES],
     unused: u32,
+    slice: u8,
 ) -> bool
-    ensures { λ r. ⌜ Says r (AllSeats running at class ticks unused) ⌝ }
+    ensures { λ r. ⌜ Says r (AllSeats slice running at class ticks unused) ⌝ }
 {
     if bits::has_bit(unused, 0) {
         return false;
@@ -119,7 +105,7 @@ fn seats_fit(
     let mut p = 1;
     while p < PROCESSES {
         let bit = bits::has_bit(unused, p as u32);
-        all = all & seat_fits(at[p], running == p, class[p], ticks[p], bit);
+        all = all & seat_fits(at[p], running == p, class[p], ticks[p], bit, slice);
         p += 1;
     }
     all
@@ -165,8 +151,8 @@ fn is_topmost(running: usize, class: u8, ready: u32) -> bool
 }
 
 // Whether all but the links is sound, where each process stands as `at` says.
-fn procs_fit(k: Procs, unused: u32, at: [u8; PROCESSES]) -> bool
-    ensures { λ r. ⌜ Says r (Fits (numbers k) unused at) ⌝ }
+fn procs_fit(k: Procs, at: [u8; PROCESSES], slice: u8) -> bool
+    ensures { λ r. ⌜ Says r (Fits slice (numbers k) at) ⌝ }
 {
     let running = k.running.0 as usize;
     if PROCESSES <= running {
@@ -174,7 +160,7 @@ fn procs_fit(k: Procs, unused: u32, at: [u8; PROCESSES]) -> bool
     }
     let class = k.class;
     let ticks = k.ticks;
-    if !seats_fit(running, at, class, ticks, unused) {
+    if !seats_fit(running, at, class, ticks, k.unused, slice) {
         return false;
     }
     let queues = k.queues;
@@ -186,9 +172,9 @@ fn procs_fit(k: Procs, unused: u32, at: [u8; PROCESSES]) -> bool
     is_topmost(running, class[running], ready)
 }
 
-// Whether k and the bits of the unused hold the sound process part of a state, and in which queue each process then stands.
-pub fn seated(k: Procs, unused: u32) -> Places
-    ensures { λ r. ⌜ Answer (numbers k) unused (r .ok) (r .at) ⌝ }
+// Whether k holds the sound process part of a state, and in which queue each process then stands.
+pub fn seated(k: Procs, slice: u8) -> Places
+    ensures { λ r. ⌜ Answer slice (numbers k) (r .ok) (r .at) ⌝ }
 {
     let zeros = [0u8; PROCESSES];
     let none = Places {
@@ -201,7 +187,7 @@ pub fn seated(k: Procs, unused: u32) -> Places
         return none;
     }
     let at = found.at;
-    if !procs_fit(k, unused, at) {
+    if !procs_fit(k, at, slice) {
         return none;
     }
     Places { ok: true, at }

@@ -1,4 +1,9 @@
-// The sizes of document 01 as the code has them, each named once. The definitions have their own in crates/plain/specs/Sizes.antt, and the proofs hold the two together. Assumes nothing.
+// The sizes of document 01 as the code has them, each named once, and process and buffer numbers as separate units. The definitions have their own sizes in crates/plain/specs/Sizes.antt, and the proofs hold the two together. Assumes nothing.
+
+// A process and a buffer: "a place for one never takes the other". Either may hold any byte.
+pub struct Pid(pub u8);
+
+pub struct Bid(pub u8);
 
 pub const PROCESSES: usize = 32;
 

@@ -1,12 +1,12 @@
 // Whether the mail of a state is sound by itself: every buffer is queued once, in one hand, or free.
 // Nothing is assumed of what stands in the fields.
 use bits::has_bit;
-use boxes::Bid;
 use boxes::Boxes;
 use boxes::bytes_of;
 use mail::Mail;
 use rings::Places;
 use sizes::BUFFERS;
+use sizes::Bid;
 use sizes::PROCESSES;
 ghost use mathlib.Core.Path.{_≡_};
 ghost use mathlib.Core.List.{map};
@@ -57,14 +57,14 @@ fn few(boxes: Boxes) -> bool
 }
 
 // A full hand gets its buffer b, which is at no other place; an empty one has 0.
-fn grasp(at: &mut [u8; BUFFERS], full: bool, b: u8) -> bool
+fn grasp(at: &mut [u8; BUFFERS], full: bool, b: Bid) -> bool
     requires { ⌜ length (now at) ≡ buffers ⌝ }
-    ensures { λ r. ⌜ Grasped (now (at .entry)) full b r (now (at .exit)) × (length (now (at .exit)) ≡ buffers) ⌝ }
+    ensures { λ r. ⌜ Grasped (now (at .entry)) full (b .0) r (now (at .exit)) × (length (now (at .exit)) ≡ buffers) ⌝ }
 {
     if !full {
-        return b == 0;
+        return b.0 == 0;
     }
-    let i = b as usize;
+    let i = b.0 as usize;
     if BUFFERS <= i {
         return false;
     }
@@ -83,7 +83,7 @@ fn handed(at: [u8; BUFFERS], hand: [Bid; PROCESSES], full: u32) -> Places
     let mut p = 0;
     while p < PROCESSES {
         let b = hand[p];
-        if !grasp(&mut s, has_bit(full, p as u32), b.0) {
+        if !grasp(&mut s, has_bit(full, p as u32), b) {
             return Places { ok: false, at: s };
         }
         p += 1;

@@ -26,14 +26,10 @@ pub struct Verdict {
     pub number: u32,
 }
 
-// What the kernel reads off its state before it judges a call.
+// What the kernel reads off its state before it judges any call. What only some calls ask for they are given beside it.
 pub struct Facts {
     pub sound: bool,
     pub runner: u32,
-    pub hand: bool,
-    pub length: u32,
-    pub unused: u32,
-    pub free: u32,
 }
 
 impl Verdict {
@@ -81,12 +77,12 @@ pub fn on_idle(f: Facts) -> Verdict
     on_tick(f).or(f.runner == 0, 5)
 }
 
-pub fn on_create(f: Facts, class: u32) -> Verdict
-    ensures { λ r. ⌜ r ≡ found (on 14 (not (f .sound)) ∷ noClass class ∷ on 10 (eqb (f .unused) processes) ∷ []) ⌝ }
+pub fn on_create(f: Facts, class: u32, unused: u32) -> Verdict
+    ensures { λ r. ⌜ r ≡ found (on 14 (not (f .sound)) ∷ noClass class ∷ on 10 (eqb unused processes) ∷ []) ⌝ }
 {
     on_tick(f)
         .or(CLASSES <= class, 2)
-        .or(f.unused == PROCESSES, 10)
+        .or(unused == PROCESSES, 10)
 }
 
 pub fn on_stop(f: Facts, p: u32, unused: bool) -> Verdict
@@ -101,37 +97,37 @@ pub fn on_class(f: Facts, class: u32) -> Verdict
     on_idle(f).or(CLASSES <= class, 2)
 }
 
-pub fn on_send(f: Facts, held: usize, m: u32, n: usize, full: bool) -> Verdict
-    ensures { λ r. ⌜ r ≡ found (on 14 (not (f .sound)) ∷ on 15 (not (eqb held storeSize)) ∷ noMailbox m ∷ on 6 (ltb longest n) ∷ on 11 full ∷ on 12 (eqb (f .free) buffers) ∷ []) ⌝ }
+pub fn on_send(f: Facts, held: usize, m: u32, n: usize, full: bool, free: u32) -> Verdict
+    ensures { λ r. ⌜ r ≡ found (on 14 (not (f .sound)) ∷ on 15 (not (eqb held storeSize)) ∷ noMailbox m ∷ on 6 (ltb longest n) ∷ on 11 full ∷ on 12 (eqb free buffers) ∷ []) ⌝ }
 {
     on_tick(f)
         .or(held != sizes::STORE_SIZE, 15)
         .or(MAILBOXES <= m, 3)
         .or(sizes::LONGEST < n, 6)
         .or(full, 11)
-        .or(f.free == BUFFERS, 12)
+        .or(free == BUFFERS, 12)
 }
 
-pub fn on_receive(f: Facts, m: u32) -> Verdict
-    ensures { λ r. ⌜ r ≡ found (on 14 (not (f .sound)) ∷ on 5 (eqb (f .runner) 0) ∷ noMailbox m ∷ on 7 (f .hand) ∷ []) ⌝ }
+pub fn on_receive(f: Facts, m: u32, hand: bool) -> Verdict
+    ensures { λ r. ⌜ r ≡ found (on 14 (not (f .sound)) ∷ on 5 (eqb (f .runner) 0) ∷ noMailbox m ∷ on 7 hand ∷ []) ⌝ }
 {
-    on_idle(f).or(MAILBOXES <= m, 3).or(f.hand, 7)
+    on_idle(f).or(MAILBOXES <= m, 3).or(hand, 7)
 }
 
-pub fn on_release(f: Facts) -> Verdict
-    ensures { λ r. ⌜ r ≡ found (on 14 (not (f .sound)) ∷ on 5 (eqb (f .runner) 0) ∷ on 8 (not (f .hand)) ∷ []) ⌝ }
+pub fn on_release(f: Facts, hand: bool) -> Verdict
+    ensures { λ r. ⌜ r ≡ found (on 14 (not (f .sound)) ∷ on 5 (eqb (f .runner) 0) ∷ on 8 (not hand) ∷ []) ⌝ }
 {
-    on_idle(f).or(!f.hand, 8)
+    on_idle(f).or(!hand, 8)
 }
 
-pub fn on_read(f: Facts, held: usize, room: usize) -> Verdict
-    ensures { λ r. ⌜ r ≡ found (on 14 (not (f .sound)) ∷ on 15 (not (eqb held storeSize)) ∷ on 5 (eqb (f .runner) 0) ∷ on 8 (not (f .hand)) ∷ record { code = 9; number = f .length; holds = ltb room (f .length) } ∷ []) ⌝ }
+pub fn on_read(f: Facts, held: usize, room: usize, hand: bool, length: u32) -> Verdict
+    ensures { λ r. ⌜ r ≡ found (on 14 (not (f .sound)) ∷ on 15 (not (eqb held storeSize)) ∷ on 5 (eqb (f .runner) 0) ∷ on 8 (not hand) ∷ record { code = 9; number = length; holds = ltb room length } ∷ []) ⌝ }
 {
     on_tick(f)
         .or(held != sizes::STORE_SIZE, 15)
         .or(f.runner == 0, 5)
-        .or(!f.hand, 8)
-        .or_with(room < f.length as usize, 9, f.length)
+        .or(!hand, 8)
+        .or_with(room < length as usize, 9, length)
 }
 
 pub fn on_signal(f: Facts, i: u32, count: u32) -> Verdict

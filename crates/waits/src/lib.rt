@@ -5,7 +5,8 @@ ghost use lib.ListN.{getD};
 ghost use Rattle.boxes.specs.Box.{num};
 ghost use Rattle.rings.specs.Walk.{Says};
 ghost use Rattle.waits.specs.Waits.{HandFits, LyingFits, WaitFits, AllFit, isHolding};
-use boxes::Bid;
+use sizes::Bid;
+use sizes::Pid;
 
 const PROCESSES: u32 = sizes::PROCESSES as u32;
 
@@ -80,12 +81,12 @@ fn wait_fits(
 // Whether all of them do, and process 0 has an empty hand.
 pub fn all_fit(
     at: [u8; sizes::PROCESSES],
-    running: u8,
+    running: Pid,
     full: u32,
     next: [Bid; NODES],
     count: [u16; sizes::SEMAPHORES],
 ) -> bool
-    ensures { λ r. ⌜ Says r (AllFit at running full (map num next) count) ⌝ }
+    ensures { λ r. ⌜ Says r (AllFit at (running .0) full (map num next) count) ⌝ }
 {
     if bits::has_bit(full, 0) {
         return false;
@@ -97,7 +98,7 @@ pub fn all_fit(
         let place = at[i];
         if !wait_fits(
             place,
-            p == running as u32,
+            p == running.0 as u32,
             bits::has_bit(full, p),
             &links,
             &count,

@@ -4,15 +4,6 @@ use Rattle.rings.proofs.Looks.{first-of-queue, first-no-queue}
 use Rattle.boxes.proofs.first_by.Statement.{statement}
 use Rattle.boxes.proofs.first_by.Tie as tie
 
-cast-result : tie.Need-cast-result
-cast-result c = search needs
-
-add-result : tie.Need-add-result
-add-result c = search needs
-
-element-copy-out-result : tie.Need-element-copy-out-result
-element-copy-out-result c = search needs
-
 returns : tie.Need-returns
 returns c = λ prev. first-of-queue (c .before .if1 .taken)
 
@@ -20,5 +11,4 @@ returns-2 : tie.Need-returns-2
 returns-2 c = λ prev. first-no-queue (c .if1 .left)
 
 pub first-by-spec : {M : Type 1} → statement M
-first-by-spec =
-    tie.close (tie.spec cast-result add-result element-copy-out-result returns returns-2)
+first-by-spec = tie.close (tie.spec (λ c. search needs) (λ c. search needs) (λ c. search needs) returns returns-2)

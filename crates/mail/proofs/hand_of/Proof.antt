@@ -10,19 +10,16 @@ use Rattle.mail.proofs.Arrays.{read-past}
 use Rattle.mail.proofs.hand_of.Statement.{statement}
 use Rattle.mail.proofs.hand_of.Tie as tie
 
-array-copy-out-result : tie.Need-array-copy-out-result
-array-copy-out-result c = search needs
-
 returns : tie.Need-returns
 returns c =
-    let a = c .before .before .args in
-    sym (entry num (record { 0 = 0 }) refl (a .t1) (a .p))
+    let a = c .before .before .before .before .args in
+    sym (entry num (record { 0 = 0 }) refl (a .t1) (a .p .0))
 
 returns-2 : tie.Need-returns-2
 returns-2 c =
-    let a = c .before .args in
+    let a = c .before .before .args in
     let n : length (a .t1) ≡ processes = search needs in
-    sym (read-past (a .t1) (a .p) (omega arith))
+    sym (read-past (a .t1) (a .p .0) (omega arith))
 
 pub hand-of-spec : {M : Type 1} → statement M
-hand-of-spec = tie.close (tie.spec array-copy-out-result returns returns-2)
+hand-of-spec = tie.close (tie.spec (λ c. search needs) (λ c. search needs) returns returns-2)

@@ -17,29 +17,14 @@ use Rattle.seats.proofs.seats_fit.Statement.{statement}
 use Rattle.seats.proofs.seats_fit.Tie as tie
 
 abbrev Inv-loop : tie.InvT-loop
-Inv-loop running unused at class ticks all₀ p₀ all p =
-    (1 ≤ p) × (p ≤ processes) × Says all ((i : ℕ) → i < p → 1 ≤ i → Seat (getD at i 0) (eqb running i) (getD class i 0) (getD ticks i 0) (bits unused i))
+Inv-loop running unused slice at class ticks all₀ p₀ all p =
+    (1 ≤ p) × (p ≤ processes) × Says all ((i : ℕ) → i < p → 1 ≤ i → Seat slice (getD at i 0) (eqb running i) (getD class i 0) (getD ticks i 0) (bits unused i))
 
 abbrev μ-loop : tie.MeasureT-loop
-μ-loop running unused at class ticks all₀ p₀ all p = processes - p
-
-has-bit-requires : tie.Need-has-bit-requires Inv-loop μ-loop
-has-bit-requires c κs = search needs
+μ-loop running unused slice at class ticks all₀ p₀ all p = processes - p
 
 returns : tie.Need-returns Inv-loop μ-loop
 returns c = λ s. true≢false (sym (c .if1 .taken) ∙ c .before .has-bit .ensures ∙ s .null-used)
-
-array-read-is-vacant : tie.Need-array-read-is-vacant Inv-loop μ-loop
-array-read-is-vacant c = search needs
-
-array-read-is-vacant-2 : tie.Need-array-read-is-vacant-2 Inv-loop μ-loop
-array-read-is-vacant-2 c = search needs
-
-array-read-is-vacant-3 : tie.Need-array-read-is-vacant-3 Inv-loop μ-loop
-array-read-is-vacant-3 c = search needs
-
-is-vacant-requires : tie.Need-is-vacant-requires Inv-loop μ-loop
-is-vacant-requires c κs = search needs
 
 returns-2 : tie.Need-returns-2 Inv-loop μ-loop
 returns-2 c = λ s. (rw (not-true (c .before .is-vacant .result) (c .if2 .taken)) at (c .before .is-vacant .ensures)) (s .null)
@@ -47,37 +32,13 @@ returns-2 c = λ s. (rw (not-true (c .before .is-vacant .result) (c .if2 .taken)
 loop-holds : tie.Need-loop-holds Inv-loop μ-loop
 loop-holds c = (omega arith, omega arith, λ i h u. absurd (omega arith))
 
-cast-has-bit : tie.Need-cast-has-bit Inv-loop μ-loop
-cast-has-bit c = search needs
-
-has-bit-requires-2 : tie.Need-has-bit-requires-2 Inv-loop μ-loop
-has-bit-requires-2 c κs = search needs
-
-array-read-seat-fits : tie.Need-array-read-seat-fits Inv-loop μ-loop
-array-read-seat-fits c = search needs
-
-array-read-seat-fits-2 : tie.Need-array-read-seat-fits-2 Inv-loop μ-loop
-array-read-seat-fits-2 c = search needs
-
-array-read-seat-fits-3 : tie.Need-array-read-seat-fits-3 Inv-loop μ-loop
-array-read-seat-fits-3 c = search needs
-
-seat-fits-requires : tie.Need-seat-fits-requires Inv-loop μ-loop
-seat-fits-requires c κs = search needs
-
-add-p : tie.Need-add-p Inv-loop μ-loop
-add-p c = search needs
-
-loop-less : tie.Need-loop-less Inv-loop μ-loop
-loop-less c = search needs
-
 loop-again : tie.Need-loop-again Inv-loop μ-loop
 loop-again c =
     let f = c .seat-fits in
     let k = c .before .before .before in
     let l = k .loop in
     let x = k .before .before .before .before .before .args in
-    let S : ℕ → Type 0 = λ i. Seat (getD (x .t2) i 0) (eqb (x .running) i) (getD (x .t3) i 0) (getD (x .t4) i 0) (bits (x .unused) i) in (
+    let S : ℕ → Type 0 = λ i. Seat (x .slice) (getD (x .t2) i 0) (eqb (x .running) i) (getD (x .t3) i 0) (getD (x .t4) i 0) (bits (x .unused) i) in (
       omega arith,
       omega arith,
       says-more (λ i. 1 ≤ i → S i) (l .p) (l .all) (f .result) (l .inv .2) (says-as (1 ≤ l .p → S (l .p)) (f .result) (λ s u. s) (λ s. s (l .inv .0)) (rw (c .before .has-bit2 .ensures) at (f .ensures))),
@@ -102,21 +63,21 @@ seats-fit-spec =
     (tie.spec
     Inv-loop
     μ-loop
-    has-bit-requires
+    (λ c κs. search needs)
     returns
-    array-read-is-vacant
-    array-read-is-vacant-2
-    array-read-is-vacant-3
-    is-vacant-requires
+    (λ c. search needs)
+    (λ c. search needs)
+    (λ c. search needs)
+    (λ c κs. search needs)
     returns-2
     loop-holds
-    cast-has-bit
-    has-bit-requires-2
-    array-read-seat-fits
-    array-read-seat-fits-2
-    array-read-seat-fits-3
-    seat-fits-requires
-    add-p
-    loop-less
+    (λ c. search needs)
+    (λ c κs. search needs)
+    (λ c. search needs)
+    (λ c. search needs)
+    (λ c. search needs)
+    (λ c κs. search needs)
+    (λ c. search needs)
+    (λ c. search needs)
     loop-again
     returns-3)

@@ -1,15 +1,15 @@
 -- `kernel::Kernel::is_sound` meets its contract. Assumes nothing.
 use Prim.Native.Nat.{ℕ}
-use mathlib.Core.Path.{_≡_}
-use native.Mathlib.Omega.{arith}
-use lib.ListN.{length, getD}
-use mir.Syntax.{w16}
-use mir.Val.{Fits}
-use borrow.Author.Needs.{needs}
-use Rattle.plain.specs.Sizes.{semaphores}
 use Rattle.kernel.proofs.Decided.{not-seated, not-stocked, decided}
 use Rattle.kernel.proofs.Kernel.is_sound.Statement.{statement}
 use Rattle.kernel.proofs.Kernel.is_sound.Tie as tie
+use Rattle.plain.specs.Sizes.{semaphores, slice}
+use borrow.Author.Needs.{needs}
+use lib.ListN.{length, getD}
+use mathlib.Core.Path.{_≡_}
+use mir.Syntax.{w16}
+use mir.Val.{Fits}
+use native.Mathlib.Omega.{arith}
 
 -- how long the array of counts is, and that a count is a u16
 long : (s : tie.Start) → length (s .args .self .count) ≡ semaphores
@@ -18,25 +18,16 @@ long s = search needs
 low : (s : tie.Start) (i : ℕ) → Fits w16 (getD (s .args .self .count) i 0)
 low s i = search needs
 
-seated-requires : tie.Need-seated-requires
-seated-requires c κs = search needs
-
 returns : tie.Need-returns
+unfolding slice
 returns c = not-seated (c .before .before .before .before .args .self) (c .before .before .seated .result .ok) (c .before .before .seated .result .at) (c .if1 .taken) (c .before .before .seated .ensures)
-
-stocked-requires : tie.Need-stocked-requires
-stocked-requires c κs = search needs
 
 returns-2 : tie.Need-returns-2
 returns-2 c = not-stocked (c .before .before .before .before .before .before .before .args .self) (c .before .stocked .result) (c .if2 .taken) (c .before .stocked .ensures)
 
-all-fit-requires : tie.Need-all-fit-requires
-all-fit-requires c κs = search needs
-
 returns-3 : tie.Need-returns-3
+unfolding slice
 returns-3 c = decided (c .before .before .before .before .before .before .before .before .before .before .before .before .before .args .self) (long (c .before .before .before .before .before .before .before .before .before .before .before .before .before)) (λ i. omega (arith, low (c .before .before .before .before .before .before .before .before .before .before .before .before .before) i .fits)) (c .before .before .before .before .before .before .before .before .before .before .before .seated .result .ok) (c .before .before .before .before .before .before .before .before .before .before .before .seated .result .at) (c .before .before .before .before .before .before .before .before .before .if1 .left) (c .before .before .before .before .before .before .before .before .before .before .before .seated .ensures) (c .before .before .before .before .before .before .before .stocked .result) (c .before .before .before .before .before .before .if2 .left) (c .before .before .before .before .before .before .before .stocked .ensures) (c .all-fit .result) (c .all-fit .ensures)
 
 pub is-sound-spec : {M : Type 1} → statement M
-is-sound-spec =
-    tie.close
-    (tie.spec seated-requires returns stocked-requires returns-2 all-fit-requires returns-3)
+is-sound-spec = tie.close (tie.spec (λ c κs. search needs) returns (λ c κs. search needs) returns-2 (λ c κs. search needs) returns-3)

@@ -1,5 +1,6 @@
 -- `kernel::Kernel::stop` meets its contract. Assumes nothing.
 use Prim.Native.Nat.{_%_}
+use Rattle.kernel.proofs.Changes.{stopped-holds}
 use Rattle.kernel.proofs.Judging.{refused-plainly, accepted-plainly, gives}
 use Rattle.kernel.proofs.Kernel.stop.Statement.{statement}
 use Rattle.kernel.proofs.Kernel.stop.Tie as tie
@@ -12,14 +13,14 @@ use mathlib.Core.Path.{_≡_}
 use native.Mathlib.Omega.{arith}
 
 returns : tie.Need-returns
-returns c = refused-plainly (Plain.stop _) (c .before .if1 .taken) (judged-stop (c .before .before .before .before .before .facts .ensures) (c .before .before .before .before .before .before .args .p) (c .before .before .before .before .has-bit .ensures) (c .before .before .before .on-stop .ensures)) (c .refuse .ensures)
+returns c = refused-plainly (Plain.stop _) (c .before .if1 .taken) (judged-stop (c .before .before .before .before .before .before .facts .ensures) (c .before .before .before .before .before .before .before .args .p) (c .before .before .before .before .is-unused .ensures) (c .before .before .before .on-stop .ensures)) (c .refuse .ensures)
 
 returns-2 : tie.Need-returns-2
 unfolding Plain.perform Plain.refusals
-returns-2 c = accepted-plainly (Plain.stop _) (c .before .before .if1 .left) (judged-stop (c .before .before .before .before .before .before .facts .ensures) (c .before .before .before .before .before .before .before .args .p) (c .before .before .before .before .before .has-bit .ensures) (c .before .before .before .before .on-stop .ensures)) (λ s H S x.
-    let w = somebody (c .before .before .before .before .before .before .before .args .p) s (x .0) in
-    let e : c .before .before .before .before .before .before .before .args .p % 256 ≡ c .before .before .before .before .before .before .before .args .p = omega (arith, w .1) in
-    gives 0 0 [] _ (c .answer .ensures) (rw e at (c .before .stopped .ensures s H S (rw e (w .0), rw e (w .1)))))
+returns-2 c = accepted-plainly (Plain.stop _) (c .before .before .if1 .left) (judged-stop (c .before .before .before .before .before .before .before .facts .ensures) (c .before .before .before .before .before .before .before .before .args .p) (c .before .before .before .before .before .is-unused .ensures) (c .before .before .before .before .on-stop .ensures)) (λ s H S x.
+    let w = somebody (c .before .before .before .before .before .before .before .before .args .p) s (x .0) in
+    let e : c .before .before .before .before .before .before .before .before .args .p % 256 ≡ c .before .before .before .before .before .before .before .before .args .p = omega (arith, w .1) in
+    gives 0 0 [] _ (c .answer .ensures) (stopped-holds H S (c .before .before .before .before .before .before .before .before .args .p) e (w .0) (w .1) (c .before .stopped .ensures)))
 
 pub stop-spec : {M : Type 1} → statement M
 stop-spec = tie.close (tie.spec (λ c κs. search needs) (λ c κs. search needs) (λ c κs. search needs) (λ c κs. search needs) returns (λ c. search needs) (λ c κs. search needs) (λ c κs. search needs) returns-2)

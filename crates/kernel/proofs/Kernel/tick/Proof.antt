@@ -1,25 +1,24 @@
 -- `kernel::Kernel::tick` meets its contract. Assumes nothing.
-use Rattle.kernel.proofs.Changes.{moved-holds}
+use Rattle.kernel.proofs.Changes.{slice-is, moved-holds}
 use Rattle.kernel.proofs.Judging.{refused-plainly, accepted-plainly, gives}
 use Rattle.kernel.proofs.Kernel.tick.Statement.{statement}
 use Rattle.kernel.proofs.Kernel.tick.Tie as tie
-use Rattle.kernel.proofs.Unused.{ticked-used}
 use Rattle.kernel.proofs.Verdicts.{judged-tick}
 use Rattle.plain.specs.Calls as Plain
-use Rattle.procs.proofs.Calls.{ticked-held}
+use Rattle.plain.specs.Sizes.{slice}
+use Rattle.plain_laws.proofs.Frames.{slice-some}
+use Rattle.procs.proofs.Kept.{ticked-kept}
 use borrow.Author.Needs.{needs}
 use mathlib.Core.List.{[]}
-use mathlib.Core.Path.{refl}
 
 returns : tie.Need-returns
 unfolding Plain.refusals
 returns c = refused-plainly Plain.tick (c .before .if1 .taken) (judged-tick (c .before .before .before .before .facts .ensures) (c .before .before .before .on-tick .ensures)) (c .refuse .ensures)
 
 returns-2 : tie.Need-returns-2
-unfolding Plain.perform Plain.refusals
+unfolding Plain.perform Plain.refusals slice
 returns-2 c = accepted-plainly Plain.tick (c .before .before .before .before .if1 .left) (judged-tick (c .before .before .before .before .before .before .before .facts .ensures) (c .before .before .before .before .before .before .on-tick .ensures)) (λ s H S x.
-    gives 0 0 [] _ (c .answer .ensures) (rw (c .before .with-procs .ensures)
-    (moved-holds _ _ (Plain.ticked (s .procs)) s H (rw (c .before .before .tick .ensures) (ticked-held (H .procs) (S .seated))) (ticked-used (s .procs) (S .seated) (S .highest)) refl refl refl)))
+    gives 0 0 [] _ (c .answer .ensures) (rw (c .before .with-procs .ensures) (moved-holds H (rw (c .before .before .tick .ensures, slice-is H) (ticked-kept (H .procs) (slice-some s S) (S .seated) (S .highest))))))
 
 pub tick-spec : {M : Type 1} → statement M
 tick-spec = tie.close (tie.spec (λ c κs. search needs) (λ c κs. search needs) (λ c κs. search needs) returns (λ c κs. search needs) (λ c κs. search needs) (λ c κs. search needs) returns-2)

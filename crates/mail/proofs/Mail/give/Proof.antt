@@ -5,15 +5,9 @@ use Rattle.mail.specs.Moves.{given}
 use Rattle.mail.proofs.Mail.give.Statement.{statement}
 use Rattle.mail.proofs.Mail.give.Tie as tie
 
-with-hand-requires : tie.Need-with-hand-requires
-with-hand-requires c κs = search needs
-
-with-bit-requires : tie.Need-with-bit-requires
-with-bit-requires c κs = search needs
-
 returns : tie.Need-returns
 unfolding numbers given
-returns c = rw (c .before .with-hand .ensures, c .with-bit .ensures)
+returns c = rw (c .before .before .with-hand .ensures, c .with-bit .ensures)
 
 pub give-spec : {M : Type 1} → statement M
-give-spec = tie.close (tie.spec with-hand-requires with-bit-requires returns)
+give-spec = tie.close (tie.spec (λ c κs. search needs) (λ c. search needs) (λ c κs. search needs) returns)

@@ -6,17 +6,11 @@ use Rattle.mail.specs.Moves.{given, handedOver}
 use Rattle.mail.proofs.Mail.hand_over.Statement.{statement}
 use Rattle.mail.proofs.Mail.hand_over.Tie as tie
 
-fill-requires : tie.Need-fill-requires
-fill-requires c κs = search needs
-
-give-requires : tie.Need-give-requires
-give-requires c κs = search needs
-
 returns : tie.Need-returns
 unfolding handedOver
 returns c =
     let a = c .before .before .args in
-    c .give .ensures ∙ ap (λ (k : Numbers). given k (a .p) (a .b .0)) (c .before .fill .ensures)
+    c .give .ensures ∙ ap (λ (k : Numbers). given k (a .p .0) (a .b .0)) (c .before .fill .ensures)
 
 pub hand-over-spec : {M : Type 1} → statement M
-hand-over-spec = tie.close (tie.spec fill-requires give-requires returns)
+hand-over-spec = tie.close (tie.spec (λ c κs. search needs) (λ c κs. search needs) returns)

@@ -5,12 +5,9 @@ use Rattle.mail.specs.Moves.{hasMessage}
 use Rattle.mail.proofs.Mail.has_message.Statement.{statement}
 use Rattle.mail.proofs.Mail.has_message.Tie as tie
 
-has-bit-requires : tie.Need-has-bit-requires
-has-bit-requires c κs = search needs
-
 returns : tie.Need-returns
 unfolding numbers hasMessage
 returns c = c .has-bit .ensures
 
 pub has-message-spec : {M : Type 1} → statement M
-has-message-spec = tie.close (tie.spec has-bit-requires returns)
+has-message-spec = tie.close (tie.spec (λ c. search needs) (λ c κs. search needs) returns)

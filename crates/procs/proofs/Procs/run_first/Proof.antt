@@ -5,18 +5,9 @@ use Rattle.procs.specs.Moves.{firstRuns}
 use Rattle.procs.proofs.Procs.run_first.Statement.{statement}
 use Rattle.procs.proofs.Procs.run_first.Tie as tie
 
-first-requires : tie.Need-first-requires
-first-requires c κs = search needs
-
-leave-requires : tie.Need-leave-requires
-leave-requires c κs = search needs
-
-run-requires : tie.Need-run-requires
-run-requires c κs = search needs
-
 returns : tie.Need-returns
 unfolding numbers firstRuns
-returns c = rw (c .run .ensures, c .before .leave .ensures, c .before .before .first .ensures .whole)
+returns c = rw (c .run .ensures, c .before .leave .ensures, c .before .before .first .ensures)
 
 pub run-first-spec : {M : Type 1} → statement M
-run-first-spec = tie.close (tie.spec first-requires leave-requires run-requires returns)
+run-first-spec = tie.close (tie.spec (λ c κs. search needs) (λ c κs. search needs) (λ c κs. search needs) returns)

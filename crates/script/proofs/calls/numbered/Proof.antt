@@ -1,207 +1,70 @@
--- `script::calls::numbered` meets its contract. Each return is the tests that led there: `eK` is where the word was not the K-th.
+-- `script::calls::numbered` meets its contract. `pastK`: w is none of the first K words.
 -- Assumes nothing.
-use mathlib.Core.Path.{sym, _∙_}
+use Prim.Native.Nat.{ℕ}
+use mathlib.Core.Path.{_≡_, sym, _∙_}
+use lib.ListN.{drop}
 use borrow.Author.Needs.{needs}
+use Rattle.script.specs.Grammar.{beside, numbered}
 use Rattle.script.proofs.calls.numbered.Statement.{statement}
 use Rattle.script.proofs.calls.numbered.Tie as tie
 
-slice-aggregate-is-word : tie.Need-slice-aggregate-is-word
-slice-aggregate-is-word c = search needs
+abbrev Past : ℕ → tie.After-shared-slice-known → Type 0
+Past k s = beside (s .before .args .w .now) (numbered (s .before .args .n)) ≡ beside (s .before .args .w .now) (drop k (numbered (s .before .args .n)))
 
-is-word-requires : tie.Need-is-word-requires
-is-word-requires c κs = search needs
+past1 : (c : tie.Else1) → Past 1 (c .before .before .before)
+past1 c = rw (sym (c .before .is-word .ensures) ∙ c .if1 .left)
 
-asking-requires : tie.Need-asking-requires
-asking-requires c κs = search needs
+past2 : (c : tie.Else2) → Past 2 (c .before .before .before .before .before .before)
+past2 c = rw (past1 (c .before .before .before), sym (c .before .is-word2 .ensures) ∙ c .if2 .left)
+
+past3 : (c : tie.Else3) → Past 3 (c .before .before .before .before .before .before .before .before .before)
+past3 c = rw (past2 (c .before .before .before), sym (c .before .is-word3 .ensures) ∙ c .if3 .left)
+
+past4 : (c : tie.Else4) → Past 4 (c .before .before .before .before .before .before .before .before .before .before .before .before)
+past4 c = rw (past3 (c .before .before .before), sym (c .before .is-word4 .ensures) ∙ c .if4 .left)
+
+past5 : (c : tie.Else5) → Past 5 (c .before .before .before .before .before .before .before .before .before .before .before .before .before .before .before)
+past5 c = rw (past4 (c .before .before .before), sym (c .before .is-word5 .ensures) ∙ c .if5 .left)
+
+past6 : (c : tie.Else6) → Past 6 (c .before .before .before .before .before .before .before .before .before .before .before .before .before .before .before .before .before .before)
+past6 c = rw (past5 (c .before .before .before), sym (c .before .is-word6 .ensures) ∙ c .if6 .left)
+
+past7 : (c : tie.Else7) → Past 7 (c .before .before .before .before .before .before .before .before .before .before .before .before .before .before .before .before .before .before .before .before .before)
+past7 c = rw (past6 (c .before .before .before), sym (c .before .is-word7 .ensures) ∙ c .if7 .left)
 
 returns : tie.Need-returns
-returns c = rw (sym (c .before .before .is-word .ensures) ∙ c .before .if1 .taken) (c .asking .ensures)
-
-slice-aggregate-is-word-2 : tie.Need-slice-aggregate-is-word-2
-slice-aggregate-is-word-2 c = search needs
-
-is-word-requires-2 : tie.Need-is-word-requires-2
-is-word-requires-2 c κs = search needs
-
-asking-requires-2 : tie.Need-asking-requires-2
-asking-requires-2 c κs = search needs
+returns c = rw (sym (c .before .is-word .ensures) ∙ c .if1 .taken)
 
 returns-2 : tie.Need-returns-2
-returns-2 c =
-    let e1 = c .before .before .before .before in
-    rw (
-      sym (e1 .before .is-word .ensures) ∙ e1 .if1 .left,
-      sym (c .before .before .is-word2 .ensures) ∙ c .before .if2 .taken,
-    ) (c .asking2 .ensures)
-
-slice-aggregate-is-word-3 : tie.Need-slice-aggregate-is-word-3
-slice-aggregate-is-word-3 c = search needs
-
-is-word-requires-3 : tie.Need-is-word-requires-3
-is-word-requires-3 c κs = search needs
-
-asking-requires-3 : tie.Need-asking-requires-3
-asking-requires-3 c κs = search needs
+returns-2 c = rw (past1 (c .before .before .before), sym (c .before .is-word2 .ensures) ∙ c .if2 .taken)
 
 returns-3 : tie.Need-returns-3
-returns-3 c =
-    let e2 = c .before .before .before .before in
-    let e1 = e2 .before .before .before in
-    rw (
-      sym (e1 .before .is-word .ensures) ∙ e1 .if1 .left,
-      sym (e2 .before .is-word2 .ensures) ∙ e2 .if2 .left,
-      sym (c .before .before .is-word3 .ensures) ∙ c .before .if3 .taken,
-    ) (c .asking3 .ensures)
-
-slice-aggregate-is-word-4 : tie.Need-slice-aggregate-is-word-4
-slice-aggregate-is-word-4 c = search needs
-
-is-word-requires-4 : tie.Need-is-word-requires-4
-is-word-requires-4 c κs = search needs
-
-asking-requires-4 : tie.Need-asking-requires-4
-asking-requires-4 c κs = search needs
+returns-3 c = rw (past2 (c .before .before .before), sym (c .before .is-word3 .ensures) ∙ c .if3 .taken)
 
 returns-4 : tie.Need-returns-4
-returns-4 c =
-    let e3 = c .before .before .before .before in
-    let e2 = e3 .before .before .before in
-    let e1 = e2 .before .before .before in
-    rw (
-      sym (e1 .before .is-word .ensures) ∙ e1 .if1 .left,
-      sym (e2 .before .is-word2 .ensures) ∙ e2 .if2 .left,
-      sym (e3 .before .is-word3 .ensures) ∙ e3 .if3 .left,
-      sym (c .before .before .is-word4 .ensures) ∙ c .before .if4 .taken,
-    ) (c .asking4 .ensures)
-
-slice-aggregate-is-word-5 : tie.Need-slice-aggregate-is-word-5
-slice-aggregate-is-word-5 c = search needs
-
-is-word-requires-5 : tie.Need-is-word-requires-5
-is-word-requires-5 c κs = search needs
-
-reading-requires : tie.Need-reading-requires
-reading-requires c κs = search needs
+returns-4 c = rw (past3 (c .before .before .before), sym (c .before .is-word4 .ensures) ∙ c .if4 .taken)
 
 returns-5 : tie.Need-returns-5
-returns-5 c =
-    let e4 = c .before .before .before .before in
-    let e3 = e4 .before .before .before in
-    let e2 = e3 .before .before .before in
-    let e1 = e2 .before .before .before in
-    rw (
-      sym (e1 .before .is-word .ensures) ∙ e1 .if1 .left,
-      sym (e2 .before .is-word2 .ensures) ∙ e2 .if2 .left,
-      sym (e3 .before .is-word3 .ensures) ∙ e3 .if3 .left,
-      sym (e4 .before .is-word4 .ensures) ∙ e4 .if4 .left,
-      sym (c .before .before .is-word5 .ensures) ∙ c .before .if5 .taken,
-    ) (c .reading .ensures)
-
-slice-aggregate-is-word-6 : tie.Need-slice-aggregate-is-word-6
-slice-aggregate-is-word-6 c = search needs
-
-is-word-requires-6 : tie.Need-is-word-requires-6
-is-word-requires-6 c κs = search needs
-
-asking-requires-5 : tie.Need-asking-requires-5
-asking-requires-5 c κs = search needs
+returns-5 c = rw (past4 (c .before .before .before .before), sym (c .before .before .is-word5 .ensures) ∙ c .before .if5 .taken) (c .reading .ensures)
 
 returns-6 : tie.Need-returns-6
-returns-6 c =
-    let e5 = c .before .before .before .before in
-    let e4 = e5 .before .before .before in
-    let e3 = e4 .before .before .before in
-    let e2 = e3 .before .before .before in
-    let e1 = e2 .before .before .before in
-    rw (
-      sym (e1 .before .is-word .ensures) ∙ e1 .if1 .left,
-      sym (e2 .before .is-word2 .ensures) ∙ e2 .if2 .left,
-      sym (e3 .before .is-word3 .ensures) ∙ e3 .if3 .left,
-      sym (e4 .before .is-word4 .ensures) ∙ e4 .if4 .left,
-      sym (e5 .before .is-word5 .ensures) ∙ e5 .if5 .left,
-      sym (c .before .before .is-word6 .ensures) ∙ c .before .if6 .taken,
-    ) (c .asking5 .ensures)
-
-slice-aggregate-is-word-7 : tie.Need-slice-aggregate-is-word-7
-slice-aggregate-is-word-7 c = search needs
-
-is-word-requires-7 : tie.Need-is-word-requires-7
-is-word-requires-7 c κs = search needs
-
-asking-requires-6 : tie.Need-asking-requires-6
-asking-requires-6 c κs = search needs
+returns-6 c = rw (past5 (c .before .before .before), sym (c .before .is-word6 .ensures) ∙ c .if6 .taken)
 
 returns-7 : tie.Need-returns-7
-returns-7 c =
-    let e6 = c .before .before .before .before in
-    let e5 = e6 .before .before .before in
-    let e4 = e5 .before .before .before in
-    let e3 = e4 .before .before .before in
-    let e2 = e3 .before .before .before in
-    let e1 = e2 .before .before .before in
-    rw (
-      sym (e1 .before .is-word .ensures) ∙ e1 .if1 .left,
-      sym (e2 .before .is-word2 .ensures) ∙ e2 .if2 .left,
-      sym (e3 .before .is-word3 .ensures) ∙ e3 .if3 .left,
-      sym (e4 .before .is-word4 .ensures) ∙ e4 .if4 .left,
-      sym (e5 .before .is-word5 .ensures) ∙ e5 .if5 .left,
-      sym (e6 .before .is-word6 .ensures) ∙ e6 .if6 .left,
-      sym (c .before .before .is-word7 .ensures) ∙ c .before .if7 .taken,
-    ) (c .asking6 .ensures)
-
-bad-requires : tie.Need-bad-requires
-bad-requires c κs = search needs
+returns-7 c = rw (past6 (c .before .before .before), sym (c .before .is-word7 .ensures) ∙ c .if7 .taken)
 
 returns-8 : tie.Need-returns-8
-returns-8 c =
-    let e7 = c .before in
-    let e6 = e7 .before .before .before in
-    let e5 = e6 .before .before .before in
-    let e4 = e5 .before .before .before in
-    let e3 = e4 .before .before .before in
-    let e2 = e3 .before .before .before in
-    let e1 = e2 .before .before .before in
-    rw (
-      sym (e1 .before .is-word .ensures) ∙ e1 .if1 .left,
-      sym (e2 .before .is-word2 .ensures) ∙ e2 .if2 .left,
-      sym (e3 .before .is-word3 .ensures) ∙ e3 .if3 .left,
-      sym (e4 .before .is-word4 .ensures) ∙ e4 .if4 .left,
-      sym (e5 .before .is-word5 .ensures) ∙ e5 .if5 .left,
-      sym (e6 .before .is-word6 .ensures) ∙ e6 .if6 .left,
-      sym (e7 .before .is-word7 .ensures) ∙ e7 .if7 .left,
-    ) (c .bad .ensures)
+returns-8 c = rw (past7 c)
 
 pub numbered-spec : {M : Type 1} → statement M
 numbered-spec =
     tie.close
     (tie.spec
-    slice-aggregate-is-word
-    is-word-requires
-    asking-requires
-    returns
-    slice-aggregate-is-word-2
-    is-word-requires-2
-    asking-requires-2
-    returns-2
-    slice-aggregate-is-word-3
-    is-word-requires-3
-    asking-requires-3
-    returns-3
-    slice-aggregate-is-word-4
-    is-word-requires-4
-    asking-requires-4
-    returns-4
-    slice-aggregate-is-word-5
-    is-word-requires-5
-    reading-requires
-    returns-5
-    slice-aggregate-is-word-6
-    is-word-requires-6
-    asking-requires-5
-    returns-6
-    slice-aggregate-is-word-7
-    is-word-requires-7
-    asking-requires-6
-    returns-7
-    bad-requires
+    (λ c. search needs) (λ c κs. search needs) returns
+    (λ c. search needs) (λ c κs. search needs) returns-2
+    (λ c. search needs) (λ c κs. search needs) returns-3
+    (λ c. search needs) (λ c κs. search needs) returns-4
+    (λ c. search needs) (λ c κs. search needs) (λ c κs. search needs) returns-5
+    (λ c. search needs) (λ c κs. search needs) returns-6
+    (λ c. search needs) (λ c κs. search needs) returns-7
     returns-8)

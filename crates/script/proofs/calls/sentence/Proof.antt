@@ -8,32 +8,8 @@ use Rattle.script.proofs.WordLaws.{words-one, words-cut}
 use Rattle.script.proofs.calls.sentence.Statement.{statement}
 use Rattle.script.proofs.calls.sentence.Tie as tie
 
-first-space-requires : tie.Need-first-space-requires
-first-space-requires c κs = search needs
-
-alone-requires : tie.Need-alone-requires
-alone-requires c κs = search needs
-
 returns : tie.Need-returns
-returns c = rw (words-one (c .before .before .before .before .args .line .now) (sym (c .before .before .first-space .ensures .0) ∙ c .before .if1 .taken)) (c .alone .ensures)
-
-add-start : tie.Need-add-start
-add-start c = search needs
-
-slice-aggregate-two-or-three : tie.Need-slice-aggregate-two-or-three
-slice-aggregate-two-or-three c = sym (length-take-le _ _ (search needs))
-
-sub-two-or-three : tie.Need-sub-two-or-three
-sub-two-or-three c = search needs
-
-part-two-or-three-start : tie.Need-part-two-or-three-start
-part-two-or-three-start c = search needs
-
-part-two-or-three-end : tie.Need-part-two-or-three-end
-part-two-or-three-end c = search needs
-
-two-or-three-requires : tie.Need-two-or-three-requires
-two-or-three-requires c κs = search needs
+returns c = rw (words-one (c .before .before .before .before .before .args .line .now) (sym (c .before .before .before .first-space .ensures .0) ∙ c .before .before .if1 .taken)) (c .asking .ensures ∙ c .before .alone .ensures)
 
 returns-2 : tie.Need-returns-2
 returns-2 c =
@@ -44,13 +20,14 @@ pub sentence-spec : {M : Type 1} → statement M
 sentence-spec =
     tie.close
     (tie.spec
-    first-space-requires
-    alone-requires
+    (λ c κs. search needs)
+    (λ c κs. search needs)
+    (λ c κs. search needs)
     returns
-    add-start
-    slice-aggregate-two-or-three
-    sub-two-or-three
-    part-two-or-three-start
-    part-two-or-three-end
-    two-or-three-requires
+    (λ c. search needs)
+    (λ c. sym (length-take-le _ _ (search needs)))
+    (λ c. search needs)
+    (λ c. search needs)
+    (λ c. search needs)
+    (λ c κs. search needs)
     returns-2)

@@ -1,0 +1,10 @@
+-- `image::blank` meets its contract. Assumes nothing.
+use borrow.Author.Needs.{needs}
+use Rattle.image.proofs.blank.Statement.{statement}
+use Rattle.image.proofs.blank.Tie as tie
+
+returns : tie.Need-returns
+returns c = search needs
+
+pub blank-spec : {M : Type 1} → statement M
+blank-spec = tie.close (tie.spec returns)

@@ -1,0 +1,36 @@
+-- What a call is lent beside the state.
+-- Assumes nothing.
+use Prim.Native.Nat.{ℕ}
+use mathlib.Core.Bool.{Bool, true, false}
+use mathlib.Core.List.{List}
+use Rattle.plain.specs.Calls as Plain
+
+-- nothing; or a store, and the bytes of a message or a room of so many bytes
+pub data Lent : Type 0 where
+  nothing : Lent
+  bytes : List ℕ → Lent
+  room : ℕ → Lent
+
+abbrev pub lends : Plain.Call → Lent
+lends (Plain.create c) = nothing
+lends (Plain.stop p) = nothing
+lends Plain.end = nothing
+lends Plain.yield = nothing
+lends (Plain.class c) = nothing
+lends Plain.tick = nothing
+lends (Plain.send m b) = bytes b
+lends (Plain.receive m) = nothing
+lends (Plain.read n) = room n
+lends Plain.release = nothing
+lends (Plain.signal k) = nothing
+lends (Plain.wait k) = nothing
+
+abbrev pub isRoom : Lent → Bool
+isRoom nothing = false
+isRoom (bytes b) = false
+isRoom (room n) = true
+
+abbrev pub isNothing : Lent → Bool
+isNothing nothing = true
+isNothing (bytes b) = false
+isNothing (room n) = false
