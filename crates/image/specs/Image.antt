@@ -22,11 +22,8 @@ nodes = processes + Sizes.queues
 abbrev pub queuesLong : ℕ
 queuesLong = nodes + nodes
 
-abbrev pub atQueues : ℕ
-atQueues = 1 + processes + processes
-
 abbrev pub procsLong : ℕ
-procsLong = atQueues + queuesLong + 4 + 4
+procsLong = 1 + processes + processes + queuesLong + 4 + 4
 
 abbrev pub boxNodes : ℕ
 boxNodes = buffers + mailboxes

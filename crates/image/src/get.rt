@@ -6,7 +6,7 @@ ghost use Prim.Native.Nat.{_*_};
 ghost use lib.ListN.{length};
 ghost use Rattle.image.specs.Bytes.{byte, le, each, Got};
 ghost use Rattle.plain.specs.Sizes.{processes};
-ghost use Rattle.image.specs.Image.{nodes, boxNodes, atQueues, queuesLong, procsLong, boxesLong, mailLong, pid, bid, queues, procs, boxes, mail};
+ghost use Rattle.image.specs.Image.{nodes, boxNodes, procsLong, mailLong, pid, bid, procs, mail};
 use crate::layout;
 use crate::layout::BOX_NODES;
 use crate::layout::NODES;
@@ -122,52 +122,40 @@ pub fn hands(area: &[u8], at: usize) -> [Bid; PROCESSES]
     out
 }
 
-pub fn queues(area: &[u8]) -> Queues
-    ensures { λ r. ⌜ Got atQueues queuesLong (queues r) (now (area .entry)) ⌝ }
-{
-    let next = links(area, layout::NEXT);
-    let prev = links(area, layout::PREV);
-    Queues { next, prev }
-}
-
 pub fn procs(area: &[u8]) -> Procs
     ensures { λ r. ⌜ Got 0 procsLong (procs r) (now (area .entry)) ⌝ }
 {
     let running = Pid(byte(area, layout::RUNNING));
     let class = bytes(area, layout::CLASS);
     let ticks = bytes(area, layout::TICKS);
-    let q = queues(area);
+    let next = links(area, layout::NEXT);
+    let prev = links(area, layout::PREV);
+    let queues = Queues { next, prev };
     let ready = word(area, layout::READY);
     let unused = word(area, layout::UNUSED);
     Procs {
         running,
         class,
         ticks,
-        queues: q,
+        queues,
         ready,
         unused,
     }
 }
 
-pub fn boxes(area: &[u8]) -> Boxes
-    ensures { λ r. ⌜ Got procsLong boxesLong (boxes r) (now (area .entry)) ⌝ }
-{
-    let next = box_links(area, layout::BOX_NEXT);
-    let prev = box_links(area, layout::BOX_PREV);
-    Boxes { next, prev }
-}
-
 pub fn mail(area: &[u8]) -> Mail
     ensures { λ r. ⌜ Got procsLong mailLong (mail r) (now (area .entry)) ⌝ }
 {
-    let b = boxes(area);
+    let next = box_links(area, layout::BOX_NEXT);
+    let prev = box_links(area, layout::BOX_PREV);
+    let boxes = Boxes { next, prev };
     let hand = hands(area, layout::HAND);
     let full = word(area, layout::FULL);
     let mut length = [0u16; sizes::BUFFERS];
     halfwords(area, layout::LENGTH, &mut length);
     let free = word(area, layout::FREE);
     Mail {
-        boxes: b,
+        boxes,
         hand,
         full,
         length,

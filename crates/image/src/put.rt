@@ -4,14 +4,12 @@ ghost use Prim.Native.Nat.{_*_};
 ghost use lib.ListN.{length};
 ghost use Rattle.image.specs.Bytes.{byte, le, each, Put};
 ghost use Rattle.plain.specs.Sizes.{processes};
-ghost use Rattle.image.specs.Image.{nodes, boxNodes, atQueues, queuesLong, procsLong, boxesLong, mailLong, pid, bid, queues, procs, boxes, mail};
+ghost use Rattle.image.specs.Image.{nodes, boxNodes, procsLong, mailLong, pid, bid, procs, mail};
 use crate::layout;
 use crate::layout::BOX_NODES;
 use crate::layout::NODES;
-use boxes::Boxes;
 use mail::Mail;
 use procs::Procs;
-use queues::Queues;
 use sizes::Bid;
 use sizes::PROCESSES;
 use sizes::Pid;
@@ -106,15 +104,6 @@ pub fn hands(area: &mut [u8], at: usize, xs: [Bid; PROCESSES])
     }
 }
 
-pub fn queues(area: &mut [u8], q: Queues)
-    ensures { λ _. ⌜ Put atQueues queuesLong (queues q) (now (area .entry)) (now (area .exit)) ⌝ }
-{
-    let next = q.next;
-    links(area, layout::NEXT, next);
-    let prev = q.prev;
-    links(area, layout::PREV, prev);
-}
-
 pub fn procs(area: &mut [u8], p: Procs)
     ensures { λ _. ⌜ Put 0 procsLong (procs p) (now (area .entry)) (now (area .exit)) ⌝ }
 {
@@ -125,25 +114,22 @@ pub fn procs(area: &mut [u8], p: Procs)
     let ticks = p.ticks;
     bytes(area, layout::TICKS, ticks);
     let q = p.queues;
-    queues(area, q);
+    let next = q.next;
+    links(area, layout::NEXT, next);
+    let prev = q.prev;
+    links(area, layout::PREV, prev);
     word(area, layout::READY, p.ready);
     word(area, layout::UNUSED, p.unused);
-}
-
-pub fn boxes(area: &mut [u8], b: Boxes)
-    ensures { λ _. ⌜ Put procsLong boxesLong (boxes b) (now (area .entry)) (now (area .exit)) ⌝ }
-{
-    let next = b.next;
-    box_links(area, layout::BOX_NEXT, next);
-    let prev = b.prev;
-    box_links(area, layout::BOX_PREV, prev);
 }
 
 pub fn mail(area: &mut [u8], m: Mail)
     ensures { λ _. ⌜ Put procsLong mailLong (mail m) (now (area .entry)) (now (area .exit)) ⌝ }
 {
     let b = m.boxes;
-    boxes(area, b);
+    let next = b.next;
+    box_links(area, layout::BOX_NEXT, next);
+    let prev = b.prev;
+    box_links(area, layout::BOX_PREV, prev);
     let hand = m.hand;
     hands(area, layout::HAND, hand);
     word(area, layout::FULL, m.full);

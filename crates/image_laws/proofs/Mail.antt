@@ -15,7 +15,7 @@ use Rattle.sizes.specs.declared.Bid.{Bid}
 use Rattle.plain.specs.Sizes.{processes, mailboxes, buffers}
 use Rattle.plain.specs.Sound as Sound
 use Rattle.plain.specs.State.{Message, buffersOf, held}
-use Rattle.mail.proofs.Held.{not-queued}
+use Rattle.plain_laws.proofs.Mail.{not-queued}
 use Rattle.mail.specs.Carries.{numbers, bufferIn, isFull, isFree, AsLong, LongInHand, Carries}
 use Rattle.mail.specs.declared.Mail.{Mail}
 use Rattle.image_laws.proofs.Arrays.{values, values-long, values-at, units, unit-tables}
@@ -43,7 +43,7 @@ module _ (box : ℕ → List Message) (hand : ℕ → Option Message) (M : Sound
   unfolding held
   boxes-orderly = record {
     beyond = beyond;
-    members = λ m b o. ⊎-elim (λ h. absurd (omega (arith, not-queued box hand b beyond (M .no-more-buffers b h) m))) (λ h. h) (le? buffers b);
+    members = λ m b o. ⊎-elim (λ h. absurd (omega (arith, not-queued box hand b (M .no-more-buffers b h) beyond m))) (λ h. h) (le? buffers b);
     once = λ b. omega (arith, M .held-once b);
   }
 

@@ -1,15 +1,15 @@
 -- Every struct that holds a sound state is sized: its numbers fit their bytes.
 -- Assumes nothing.
 use Prim.Native.Nat.{ℕ, _+_, _^_, _≤_, _<_}
-use mathlib.Core.Path.{_≡_, ap}
+use mathlib.Core.Path.{_≡_}
 use mathlib.Core.Bool.{Bool}
-use mathlib.Core.Logic.{_≢_, ⊎-elim}
-use mathlib.Core.List.{List, [], _∷_, map}
+use mathlib.Core.Logic.{⊎-elim}
+use mathlib.Core.List.{List, map}
 use mathlib.Core.Option.{Option, none, some}
 use native.Mathlib.Omega.{arith}
 use lib.ListN.{length, getD}
 use Rattle.lists.specs.Lists.{occurs}
-use Rattle.lists.proofs.Laws.{same?, le?, one-same, one-other, total-zero}
+use Rattle.lists.proofs.Laws.{le?, one-same, total-zero}
 use Rattle.bits.specs.Word.{width, word}
 use Rattle.bits.proofs.Words.{word-below}
 use Rattle.rings.specs.Ring.{Rings}
@@ -18,13 +18,14 @@ use Rattle.rings.proofs.Laws.{found}
 use Rattle.queues.specs.Queue as Queue
 use Rattle.boxes.specs.Box as Box
 use Rattle.plain.specs.Sizes.{processes, mailboxes, buffers, bufferSize, longest, semaphores, highestCount, slice}
-use Rattle.plain.specs.Sound.{AllShort, Short, Sound}
+use Rattle.plain.specs.Sound.{Sound}
 use Rattle.plain.specs.Sound as Plain
 use Rattle.plain.specs.State.{Message, State, buffersOf, inHand, held}
 use Rattle.plain_laws.proofs.Seats.{runner-range}
 use Rattle.procs.specs.Stands as Stands
-use Rattle.mail.proofs.Held.{not-in-hand}
-use Rattle.mail.specs.Carries.{bufferIn, AsLong, LongInHand}
+use Rattle.plain_laws.proofs.Mail.{not-in-hand}
+use Rattle.mail.proofs.Held.{short-in-box, short-in-hand}
+use Rattle.mail.specs.Carries.{bufferIn}
 use Rattle.mail.specs.Carries as Carries
 use Rattle.kernel.specs.Holds.{Holds}
 use Rattle.kernel.specs.declared.Kernel.{Kernel}
@@ -55,26 +56,11 @@ hand-small (some x) z = ⊎-elim (λ h. absurd (omega (arith, z (x .buffer) h, o
 
 -- ---- lengths of messages
 
-module _ (t : List ℕ) (b : ℕ) where
-  short-queued : (l : List Message) → AsLong t l → AllShort l → 1 ≤ occurs b (buffersOf l) → getD t b 0 ≤ longest
-  short-queued [] a s o = absurd (omega arith)
-  short-queued (x ∷ l) a s o = ⊎-elim
-      (λ (e : x .buffer ≡ b). omega (arith, ap (λ (i : ℕ). getD t i 0) e, a .0, s .0))
-      (λ (d : x .buffer ≢ b). short-queued l (a .1) (s .1) (omega (arith, one-other (x .buffer) b d)))
-      (same? (x .buffer) b)
-
-  short-in-hand : (h : Option Message) → LongInHand t h → Short h → 1 ≤ occurs b (inHand h) → getD t b 0 ≤ longest
-  short-in-hand none a s o = absurd (omega arith)
-  short-in-hand (some x) a s o = ⊎-elim
-      (λ (e : x .buffer ≡ b). omega (arith, ap (λ (i : ℕ). getD t i 0) e, a, s))
-      (λ (d : x .buffer ≢ b). absurd (omega (arith, one-other (x .buffer) b d)))
-      (same? (x .buffer) b)
-
 -- a buffer that is held has the length of its message, and a free one has 0
 short : {k : Carries.Numbers} {box : ℕ → List Message} {hand : ℕ → Option Message} → Carries.Carries k box hand → Plain.Mail box hand → (b : ℕ) → getD (k .length) b 0 ≤ longest
 unfolding held
 short {k} {box} {hand} K M b = ⊎-elim
-    (λ r. short-queued (k .length) b (box (r .0)) (K .queued-lengths (r .0)) (M .queued-short (r .0)) (r .2))
+    (λ r. short-in-box (k .length) b (box (r .0)) (K .queued-lengths (r .0)) (M .queued-short (r .0)) (r .2))
     (λ (q : (m : ℕ) → m < mailboxes → occurs b (buffersOf (box m)) ≡ 0). ⊎-elim
     (λ r. short-in-hand (k .length) b (hand (r .0)) (K .hand-lengths (r .0)) (M .hands-short (r .0)) (r .2))
     (λ (h : (p : ℕ) → p < processes → occurs b (inHand (hand p)) ≡ 0).
@@ -108,4 +94,4 @@ sized {k} {s} H S =
     }
   where
     in-hand : (p : ℕ) → bufferIn (s .hand p) < buffers
-    in-hand p = hand-small (s .hand p) (λ b h. not-in-hand (s .box) (s .hand) b (H .mail .no-more-hands) (S .mail .no-more-buffers b h) p)
+    in-hand p = hand-small (s .hand p) (λ b h. not-in-hand (s .box) (s .hand) b (S .mail .no-more-buffers b h) (H .mail .no-more-hands) p)

@@ -18,6 +18,7 @@ use Rattle.plain.specs.Sound.{Sound}
 use Rattle.plain.specs.State as State
 use Rattle.plain.specs.State.{Message, Settings, State, move, line, freeBuffer}
 use Rattle.plain_laws.proofs.Frames.{slice-some}
+use Rattle.plain_laws.proofs.Mail.{free-nowhere}
 use Rattle.plain_laws.proofs.Seats.{head-in, runner-range}
 use Rattle.procs.proofs.Calls.{woken-nobody}
 use Rattle.procs.proofs.Kept.{woken-kept, went-kept, halted-kept}
@@ -34,7 +35,6 @@ use Rattle.counts.specs.Counts as Counts
 use Rattle.kernel.specs.Holds.{Holds}
 use Rattle.kernel.specs.Judged.{Made}
 use Rattle.kernel.specs.declared.Kernel.{Kernel}
-use Rattle.kernel.proofs.Reading.{free-held}
 
 pub made-holds : {r : Kernel} {s : State} {p : Stands.Numbers} {m : Carries.Numbers} {c : List ℕ} → Made r p m c → Stands.Keeps p (s .procs) → Carries.Carries m (s .box) (s .hand) → Counts.Counted c (s .count) → s .settings ≡ State.fresh .settings → Holds r s
 made-holds M P C N e = record { procs = rw (M .procs) P; mail = rw (M .mail) C; counts = rw (M .count) N; settings = e }
@@ -84,7 +84,7 @@ module _ {k : Kernel} {s : State} (H : Holds k s) where
       where
         carries : (l : List ℕ) → s .procs .queue (atMailbox m) ≡ l
             → Carries.Carries (Mail.delivered (Carries.numbers (k .mail)) m (Procs.firstOf procs (atMailbox m)) b n) (Plain.deliver m (record { buffer = b; bytes = x }) l s .box) (Plain.deliver m (record { buffer = b; bytes = x }) l s .hand)
-        carries l e = delivered-carries s (H .mail) b n (record { buffer = b; bytes = x }) hb (free-held s b is hb) refl long m (Procs.firstOf procs (atMailbox m)) l hm
+        carries l e = delivered-carries s (H .mail) b n (record { buffer = b; bytes = x }) hb (rw is (free-nowhere s (λ z. omega (arith, is, hb)) .1)) refl long m (Procs.firstOf procs (atMailbox m)) l hm
             (λ h. sym e ∙ first-nobody (H .procs) (atMailbox m) refl h)
             (λ h. let f = first-there (H .procs) (atMailbox m) refl h in (f .0, sym e ∙ f .1))
             (λ h. let f = first-there (H .procs) (atMailbox m) refl h in S .hands .waiters m (Procs.firstOf procs (atMailbox m)) hm (head-in (s .settings .slice) (s .procs) (S .seated) (atMailbox m) _ (f .0) (f .1)))

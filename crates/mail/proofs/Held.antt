@@ -2,15 +2,18 @@
 -- Assumes nothing.
 use Prim.Native.Nat.{ℕ, _+_, _≤_, _<_}
 use mathlib.Core.Path.{_≡_, refl, sym, ap, _∙_}
-use mathlib.Core.Logic.{⊎-elim}
+use mathlib.Core.Logic.{_≢_, ⊎-elim}
 use mathlib.Core.List.{List, [], _∷_, _++_, append-assoc}
 use mathlib.Core.Option.{Option, none, some}
 use native.Mathlib.Omega.{arith}
+use lib.ListN.{getD}
 use Rattle.lists.specs.Lists.{put, occurs}
-use Rattle.lists.proofs.Laws.{le?, occurs-append, total-zero, total-at}
-use Rattle.plain.specs.Sizes.{processes, mailboxes}
+use Rattle.lists.proofs.Laws.{same?, one-other, occurs-append, total-zero}
+use Rattle.plain.specs.Sizes.{processes, mailboxes, longest}
+use Rattle.plain.specs.Sound.{AllShort, Short}
 use Rattle.plain.specs.State.{Message, lies, buffersOf, inHand, held}
 use Rattle.plain_laws.proofs.Mail.{held-box, held-hand}
+use Rattle.mail.specs.Carries.{AsLong, LongInHand}
 
 pub buffers-append : (l r : List Message) → buffersOf (l ++ r) ≡ buffersOf l ++ buffersOf r
 buffers-append [] r = refl
@@ -48,17 +51,15 @@ module _ (box : ℕ → List Message) (hand : ℕ → Option Message) (b : ℕ) 
         occurs-append b (lies x) (buffersOf l),
       )
 
-  -- what is held nowhere is in no mailbox and in no hand
-  pub not-queued : ((m : ℕ) → mailboxes ≤ m → buffersOf (box m) ≡ []) → held box hand b ≡ 0 → (m : ℕ) → occurs b (buffersOf (box m)) ≡ 0
-  unfolding held
-  not-queued beyond z m = ⊎-elim
-      (λ h. ap (occurs b) (beyond m h))
-      (λ h. omega (arith, total-at mailboxes (λ i. occurs b (buffersOf (box i))) m h))
-      (le? mailboxes m)
+-- a buffer in which a message lies is as long as the message
+module _ (lengths : List ℕ) (b : ℕ) where
+  pub short-in-box : (l : List Message) → AsLong lengths l → AllShort l → 1 ≤ occurs b (buffersOf l) → getD lengths b 0 ≤ longest
+  short-in-box [] a s o = absurd (omega arith)
+  short-in-box (x ∷ l) a s o = ⊎-elim
+      (λ (e : x .buffer ≡ b). rw (← e) (omega (arith, a .0, s .0)))
+      (λ (d : x .buffer ≢ b). short-in-box l (a .1) (s .1) (omega (arith, one-other (x .buffer) b d)))
+      (same? (x .buffer) b)
 
-  pub not-in-hand : ((p : ℕ) → processes ≤ p → hand p ≡ none) → held box hand b ≡ 0 → (p : ℕ) → occurs b (inHand (hand p)) ≡ 0
-  unfolding held
-  not-in-hand beyond z p = ⊎-elim
-      (λ h. ap (λ (a : Option Message). occurs b (inHand a)) (beyond p h))
-      (λ h. omega (arith, total-at processes (λ i. occurs b (inHand (hand i))) p h))
-      (le? processes p)
+  pub short-in-hand : (o : Option Message) → LongInHand lengths o → Short o → 1 ≤ occurs b (inHand o) → getD lengths b 0 ≤ longest
+  short-in-hand none a s o = absurd (omega arith)
+  short-in-hand (some x) a s o = short-in-box (x ∷ []) (a, tt) (s, tt) o

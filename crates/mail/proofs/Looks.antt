@@ -1,15 +1,14 @@
 -- What is read off a struct that carries some mail.
 -- Assumes nothing.
-use Prim.Native.Nat.{ℕ, _≤_, _<_}
+use Prim.Native.Nat.{ℕ, _≤_}
 use mathlib.Core.Path.{_≡_, refl, ap, _∙_}
 use mathlib.Core.Bool.{Bool, not}
-use mathlib.Core.Logic.{_≢_, ⊎-elim}
+use mathlib.Core.Logic.{⊎-elim}
 use mathlib.Core.List.{List, [], _∷_}
 use mathlib.Core.Option.{Option, none, some}
 use native.Mathlib.Omega.{arith}
 use lib.ListN.{length}
 use lib.Dec.{leb}
-use borrow.Author.Tests.{eqb-true}
 use Rattle.lists.specs.Lists.{if_then_else_, someone, lowest}
 use Rattle.lists.proofs.Laws.{same?, le?, lowest-passes}
 use Rattle.bits.specs.Word.{width, bits}
@@ -17,7 +16,7 @@ use Rattle.bits.proofs.Words.{word-below, word-has, word-lowest, bits-above}
 use Rattle.rings.specs.Moves.{isEmpty as isEmptyRing}
 use Rattle.rings.proofs.Looks.{first-some, at-least, says-empty}
 use Rattle.plain.specs.Sizes.{processes, mailboxes, capacity, buffers}
-use Rattle.plain.specs.State.{Message, State, buffersOf, held, freeBuffer}
+use Rattle.plain.specs.State.{Message, State, buffersOf, freeBuffer}
 use Rattle.plain.specs.Calls.{isEmpty, bytesIn}
 use Rattle.mail.specs.Carries.{Numbers, bufferIn, isFull, isFree, AsLong, LongInHand, Carries}
 use Rattle.mail.specs.Moves.{lowestFree, isFullBox, isEmptyBox, hasMessage, handAt, lengthAt, lengthInHand, firstLength}
@@ -32,16 +31,6 @@ unfolding lowestFree
 lowest-free-most k =
     let f : ℕ → Bool = bits (k .free) in
     ⊎-elim (λ (e : lowest 0 width f ≡ width). omega arith) (λ d. omega (arith, lowest-passes 0 width f d)) (same? (lowest 0 width f) width)
-
--- what it gives other than 32 is a free buffer
-pub lowest-free-held : {k : Numbers} {box : ℕ → List Message} {hand : ℕ → Option Message} → Carries k box hand → lowestFree k ≢ buffers
-    → (lowestFree k < buffers) × (held box hand (lowestFree k) ≡ 0)
-unfolding lowestFree
-lowest-free-held {k} {box} {hand} K d =
-    let b : ℕ = lowest 0 width (isFree box hand) in
-    let e : lowest 0 width (bits (k .free)) ≡ b = word-lowest width (isFree box hand) (K .free) in
-    let l = lowest-passes 0 width (isFree box hand) (λ z. d (e ∙ z)) in
-    rw e (l .1, eqb-true (held box hand b) 0 (l .2))
 
 -- as many messages as buffers, and some where there are some
 pub buffers-length : (l : List Message) → length (buffersOf l) ≡ length l

@@ -28,8 +28,8 @@ use Rattle.plain.specs.Sound.{Mail}
 use Rattle.mail.specs.Carries.{Numbers, bufferIn, isFree, AsLong, LongInHand, Carries}
 use Rattle.mail.specs.Moves.{freshMail, filled, freed, given, emptied, queuedLast, handedOver, delivered, fetched, letGo}
 use Rattle.mail.proofs.Looks.{has-message, in-hand}
-use Rattle.plain_laws.proofs.Mail.{held-hand}
-use Rattle.mail.proofs.Held.{buffers-append, held-nowhere, held-queued, held-given, held-fetched, not-queued, not-in-hand}
+use Rattle.plain_laws.proofs.Mail.{held-hand, not-queued, not-in-hand}
+use Rattle.mail.proofs.Held.{buffers-append, held-nowhere, held-queued, held-given, held-fetched}
 use Rattle.mail.proofs.Parts.{put-kept, buffers-put, hands-put, no-more-put, full-put, free-put, zeros-put, long-queue, long-hand, long-rear}
 
 pub fresh-carries : Carries freshMail (λ m. []) (λ p. none)
@@ -55,13 +55,13 @@ module _ {k : Numbers} {box : ℕ → List Message} {hand : ℕ → Option Messa
     lengths = set (k .length) b n
 
     off-boxes : Absent b (λ m. buffersOf (box m))
-    off-boxes = not-queued box hand b (K .boxes .beyond) free
+    off-boxes = not-queued box hand b free (K .boxes .beyond)
 
     long-boxes : (m : ℕ) → AsLong lengths (box m)
     long-boxes m = long-queue (k .length) b n (box m) (off-boxes m) (K .queued-lengths m)
 
     long-hands : (p : ℕ) → LongInHand lengths (hand p)
-    long-hands p = long-hand (k .length) b n (hand p) (not-in-hand box hand b (K .no-more-hands) free p) (K .hand-lengths p)
+    long-hands p = long-hand (k .length) b n (hand p) (not-in-hand box hand b free (K .no-more-hands) p) (K .hand-lengths p)
 
     own-length : getD lengths (x .buffer) 0 ≡ length (x .bytes)
     own-length = rw (is, long) (getD-set-same (k .length) b n 0 (omega (arith, K .lengths-long)))
@@ -170,8 +170,8 @@ module _ {k : Numbers} {box : ℕ → List Message} {hand : ℕ → Option Messa
           hands = hands-put hand p none (k .hand) (omega (arith, K .hands-long)) (K .hands);
           no-more-hands = no-more;
           full = full-put hand p none (K .full);
-          queued-lengths = λ i. long-queue (k .length) b 0 (box i) (not-queued box hand′ b (K .boxes .beyond) now-free i) (K .queued-lengths i);
-          hand-lengths = λ i. long-hand (k .length) b 0 (hand′ i) (not-in-hand box hand′ b no-more now-free i)
+          queued-lengths = λ i. long-queue (k .length) b 0 (box i) (not-queued box hand′ b now-free (K .boxes .beyond) i) (K .queued-lengths i);
+          hand-lengths = λ i. long-hand (k .length) b 0 (hand′ i) (not-in-hand box hand′ b now-free no-more i)
               (put-cases (LongInHand (k .length)) hand p none i (λ d. tt) (λ d. K .hand-lengths i));
           free-lengths = zeros-put box box hand hand′ b others (k .length) 0 (omega (arith, K .lengths-long)) (λ z. refl) (K .free-lengths);
           free = free-put box box hand hand′ b others true (eq-eqb (held box hand′ b) 0 now-free) (K .free);

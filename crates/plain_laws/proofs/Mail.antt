@@ -11,7 +11,7 @@ use lib.ListN.{length, length-append}
 use lib.Dec.{eqb}
 use borrow.Author.Tests.{eqb-true, eqb-false}
 use Rattle.lists.specs.Lists.{put, occurs, lowest}
-use Rattle.lists.proofs.Laws.{same?, put-same, put-other, put-cases, one-le, one-other, occurs-append, total-change, lowest-passes}
+use Rattle.lists.proofs.Laws.{same?, le?, put-same, put-other, put-cases, one-le, one-other, occurs-append, total-change, total-at, lowest-passes}
 use Rattle.plain.specs.Sizes.{processes, mailboxes, capacity, buffers, longest}
 use Rattle.plain.specs.State.{Message, State, lies, buffersOf, inHand, held, free, freeBuffer}
 use Rattle.plain.specs.Sound.{AllShort, Short, Mail}
@@ -52,18 +52,40 @@ pub record Fits (box : ℕ → List Message) (hand : ℕ → Option Message) (x 
   pub range : (b : ℕ) → buffers ≤ b → occurs b (lies x) ≡ 0
   pub short : length (x .bytes) ≤ longest
 
--- one in the lowest free buffer does
+-- the lowest free buffer, where there is one, is held nowhere
+pub free-nowhere : (s : State) → freeBuffer s ≢ buffers → (freeBuffer s < buffers) × (held (s .box) (s .hand) (freeBuffer s) ≡ 0)
+unfolding freeBuffer
+free-nowhere s d =
+    let l = lowest-passes 0 buffers (free s) d in
+    (l .1, eqb-true (held (s .box) (s .hand) (lowest 0 buffers (free s))) 0 (l .2))
+
+-- what is held nowhere is in no mailbox and in no hand
+module _ (box : ℕ → List Message) (hand : ℕ → Option Message) (b : ℕ) (none-holds : held box hand b ≡ 0) where
+  pub not-queued : ((m : ℕ) → mailboxes ≤ m → buffersOf (box m) ≡ []) → (m : ℕ) → occurs b (buffersOf (box m)) ≡ 0
+  unfolding held
+  not-queued beyond m = ⊎-elim
+      (λ h. ap (occurs b) (beyond m h))
+      (λ h. omega (arith, total-at mailboxes (λ i. occurs b (buffersOf (box i))) m h))
+      (le? mailboxes m)
+
+  pub not-in-hand : ((p : ℕ) → processes ≤ p → hand p ≡ none) → (p : ℕ) → occurs b (inHand (hand p)) ≡ 0
+  unfolding held
+  not-in-hand beyond p = ⊎-elim
+      (λ h. ap (λ (a : Option Message). occurs b (inHand a)) (beyond p h))
+      (λ h. omega (arith, total-at processes (λ i. occurs b (inHand (hand i))) p h))
+      (le? processes p)
+
+-- a message in the lowest free buffer may come in
 pub fits-free : (s : State) (bytes : List ℕ) → Mail (s .box) (s .hand) → eqb (freeBuffer s) buffers ≡ false → length bytes ≤ longest
     → Fits (s .box) (s .hand) (record { buffer = freeBuffer s; bytes = bytes })
-unfolding freeBuffer
 fits-free s bytes k e short =
-    let b₀ : ℕ = lowest 0 buffers (free s) in
-    let l = lowest-passes 0 buffers (free s) (eqb-false b₀ buffers e) in
-    let none-holds : held (s .box) (s .hand) b₀ ≡ 0 = eqb-true (held (s .box) (s .hand) b₀) 0 (l .2) in
+    let b₀ : ℕ = freeBuffer s in
+    let l = free-nowhere s (eqb-false b₀ buffers e) in
+    let none-holds : held (s .box) (s .hand) b₀ ≡ 0 = l .1 in
     record {
       once = λ b. ⊎-elim (λ (d : b₀ ≡ b). omega (arith, one-le b₀ b, subst (λ (z : ℕ). held (s .box) (s .hand) z ≡ 0) d none-holds))
           (λ (d : b₀ ≢ b). omega (arith, k .held-once b, one-other b₀ b d)) (same? b₀ b);
-      range = λ b h. omega (arith, one-other b₀ b (omega arith));
+      range = λ b h. omega (arith, one-other b₀ b (omega (arith, l .0)));
       short = short;
     }
 

@@ -5,20 +5,21 @@ use mathlib.Core.Bool.{false}
 use mathlib.Core.List.{List, [], _∷_, _++_}
 use mathlib.Core.Logic.{_≢_, ⊎-elim}
 use mathlib.Core.Option.{Option, none, some}
-use mathlib.Core.Path.{_≡_, refl, sym, _∙_, subst}
+use mathlib.Core.Path.{_≡_, refl, sym, ap, _∙_, subst}
 use native.Mathlib.Nat.{mul-le-mul-left}
 use native.Mathlib.Omega.{arith}
 use lib.Dec.{eqb}
 use lib.ListN.{length, drop}
 use lib.Seq.{take-append-seam}
-use borrow.Author.Tests.{eqb-true, eqb-false, ltb-false}
-use Rattle.lists.proofs.Laws.{put-cases, one-same, total-at, le?, lowest-passes}
-use Rattle.lists.specs.Lists.{put, one, occurs, lowest}
+use borrow.Author.Tests.{eqb-false, ltb-false}
+use Rattle.lists.proofs.Laws.{put-cases, one-same, le?}
+use Rattle.lists.specs.Lists.{put, one, occurs}
 use Rattle.plain.specs.Calls as Plain
 use Rattle.plain.specs.Calls.{create, stop, end, yield, class, tick, send, receive, read, release, signal, wait}
-use Rattle.plain.specs.Sizes.{processes, mailboxes, buffers, bufferSize, storeSize, longest, atMailbox, atSemaphore}
+use Rattle.plain.specs.Sizes.{buffers, bufferSize, storeSize, longest, atMailbox, atSemaphore}
 use Rattle.plain.specs.Sound.{Sound, AllShort, Short}
-use Rattle.plain.specs.State.{Message, State, fresh, buffersOf, inHand, held, free, freeBuffer}
+use Rattle.plain.specs.State.{Message, State, fresh, buffersOf, inHand, held, freeBuffer}
+use Rattle.plain_laws.proofs.Mail.{free-nowhere, not-queued, not-in-hand}
 use Rattle.plain_laws.proofs.Refusals.{judge-cases, nonzero}
 use Rattle.plain_laws.specs.History.{Passed}
 use Rattle.promise.specs.Lent.{Lent, lends}
@@ -108,22 +109,17 @@ module _ (store : List ℕ) (long : length store ≡ storeSize) (i : ℕ) (b : L
 -- a buffer that is held nowhere is in no mailbox and in no hand
 module _ (s : State) (k : Sound s) (b : ℕ) (none-holds : held (s .box) (s .hand) b ≡ 0) where
   in-no-box : (m : ℕ) → occurs b (buffersOf (s .box m)) ≡ 0
-  unfolding held
-  in-no-box m = ⊎-elim (λ h. rw (k .mail .no-more-boxes m h) refl) (λ h. omega (arith, total-at mailboxes (λ i. occurs b (buffersOf (s .box i))) m h)) (le? mailboxes m)
+  in-no-box = not-queued (s .box) (s .hand) b none-holds (λ m h. ap buffersOf (k .mail .no-more-boxes m h))
 
   pub in-no-hand : (p : ℕ) → occurs b (inHand (s .hand p)) ≡ 0
-  unfolding held
-  in-no-hand p = ⊎-elim (λ h. rw (k .hands .unused p (k .seated .nobody-else p h)) refl) (λ h. omega (arith, total-at processes (λ i. occurs b (inHand (s .hand i))) p h)) (le? processes p)
+  in-no-hand = not-in-hand (s .box) (s .hand) b none-holds (λ p h. k .hands .unused p (k .seated .nobody-else p h))
 
 module _ (store : List ℕ) (s : State) (k : Sound s) (st : Stored store s) (m : ℕ) (b : List ℕ) (short : length b ≤ longest) (some-free : eqb (freeBuffer s) buffers ≡ false) where
   abbrev i : ℕ
   i = freeBuffer s
 
   free-is : (freeBuffer s < buffers) × (held (s .box) (s .hand) (freeBuffer s) ≡ 0)
-  unfolding freeBuffer
-  free-is =
-      let l = lowest-passes 0 buffers (free s) (eqb-false (lowest 0 buffers (free s)) buffers some-free) in
-      (l .1, eqb-true (held (s .box) (s .hand) (lowest 0 buffers (free s))) 0 (l .2))
+  free-is = free-nowhere s (eqb-false (freeBuffer s) buffers some-free)
 
   boxes-kept : (q : ℕ) → StoredAll (written store i b) (s .box q)
   boxes-kept q =

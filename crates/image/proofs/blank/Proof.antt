@@ -1,7 +1,7 @@
 -- `image::blank` meets its contract. Assumes nothing.
-use borrow.Author.Needs.{needs}
 use Rattle.image.proofs.blank.Statement.{statement}
 use Rattle.image.proofs.blank.Tie as tie
+use borrow.Author.Needs.{needs}
 
 returns : tie.Need-returns
 returns c = search needs
