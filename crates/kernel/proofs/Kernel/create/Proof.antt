@@ -27,7 +27,7 @@ unfolding Plain.perform Plain.refusals slice
 returns-2 c = accepted-plainly (Plain.create _) (c .before .before .before .if1 .left) (judged-create (c .before .before .before .before .before .before .before .before .facts .ensures) (c .before .before .before .before .before .before .before .before .before .args .class) (c .before .before .before .before .before .before .lowest-unused .ensures) (c .before .before .before .before .before .on-create .ensures)) (λ s H S x.
     let fr = next-process (s .procs) (x .1 .0) in
     let e = c .before .before .before .before .before .before .lowest-unused .ensures ∙ lowest-unused (H .procs) in
-    let e₁ : c .before .before .before .before .before .before .lowest-unused .result % 256 ≡ freeProcess (s .procs) = omega (arith, fr .1, e) in
+    let e₁ : c .before .before .before .before .before .before .lowest-unused .result % 32 ≡ freeProcess (s .procs) = omega (arith, fr .1, e) in
     let low = leb-false _ _ (x .0) in
     let e₂ : c .before .before .before .before .before .before .before .before .before .args .class % 256 ≡ c .before .before .before .before .before .before .before .before .before .args .class = omega (arith, low) in
     gives 0 (freeProcess (s .procs)) [] _ (c .answer .ensures ∙ ap (answered _ 0) e) (rw (c .before .with-procs .ensures)

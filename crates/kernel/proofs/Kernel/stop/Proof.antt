@@ -19,7 +19,7 @@ returns-2 : tie.Need-returns-2
 unfolding Plain.perform Plain.refusals
 returns-2 c = accepted-plainly (Plain.stop _) (c .before .before .if1 .left) (judged-stop (c .before .before .before .before .before .before .before .facts .ensures) (c .before .before .before .before .before .before .before .before .args .p) (c .before .before .before .before .before .is-unused .ensures) (c .before .before .before .before .on-stop .ensures)) (λ s H S x.
     let w = somebody (c .before .before .before .before .before .before .before .before .args .p) s (x .0) in
-    let e : c .before .before .before .before .before .before .before .before .args .p % 256 ≡ c .before .before .before .before .before .before .before .before .args .p = omega (arith, w .1) in
+    let e : c .before .before .before .before .before .before .before .before .args .p % 32 ≡ c .before .before .before .before .before .before .before .before .args .p = omega (arith, w .1) in
     gives 0 0 [] _ (c .answer .ensures) (stopped-holds H S (c .before .before .before .before .before .before .before .before .args .p) e (w .0) (w .1) (c .before .stopped .ensures)))
 
 pub stop-spec : {M : Type 1} → statement M

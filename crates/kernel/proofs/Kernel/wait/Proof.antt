@@ -30,8 +30,10 @@ returns-3 : tie.Need-returns-3
 unfolding Plain.perform Plain.refusals
 returns-3 c = accepted-plainly (Plain.wait _) (c .before .before .before .before .before .before .if1 .left) (judged-wait (c .before .before .before .before .before .before .before .before .before .facts .ensures) (c .before .before .before .before .before .before .before .before .before .before .args .i) (c .before .before .before .before .before .before .before .before .on-wait .ensures)) (λ s H S x.
     let a = c .before .before .before .before .before .before .before .before .before .before .args in
+    let low : a .i < semaphores = leb-false _ _ (x .1 .0) in
+    let e : a .i % 16 ≡ a .i = omega (arith, low) in
     let some : s .count (a .i) ≡ suc (s .count (a .i) - 1) = omega (arith, c .before .before .before .before .count-of .ensures, H .counts .each (a .i), c .before .before .before .if2 .left) in
-    rw some (gives 0 0 [] _ (c .answer2 .ensures) (rw (c .before .with-count .ensures, c .before .before .claimed .ensures) (claimed-holds H S (a .i) (leb-false _ _ (x .1 .0)) some))))
+    rw some (gives 0 0 [] _ (c .answer2 .ensures) (rw (c .before .with-count .ensures, c .before .before .claimed .ensures, e) (claimed-holds H S (a .i) low some))))
 
 pub wait-spec : {M : Type 1} → statement M
 wait-spec = tie.close (tie.spec (λ c κs. search needs) (λ c κs. search needs) (λ c κs. search needs) returns (λ c κs. search needs) (λ c. search needs) (λ c κs. search needs) (λ c κs. search needs) (λ c κs. search needs) returns-2 (λ c κs. search needs) (λ c κs. search needs) (λ c κs. search needs) returns-3)
