@@ -10,7 +10,6 @@ use Rattle.plain_laws.proofs.Frames.{slice-some}
 use Rattle.procs.proofs.Kept.{ticked-kept}
 use borrow.Author.Needs.{needs}
 use mathlib.Core.List.{[]}
-use mathlib.Core.Path.{_∙_, ap}
 
 returns : tie.Need-returns
 unfolding Plain.refusals
