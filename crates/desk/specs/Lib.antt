@@ -1,4 +1,4 @@
 pub mod Reply
 pub mod Line
-pub mod Told
+pub mod Tell
 pub mod Theorems

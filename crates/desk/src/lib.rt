@@ -8,7 +8,7 @@ ghost use Rattle.script.specs.Grammar.{mostBytes, largestRoom};
 ghost use Rattle.script.specs.Request.{called};
 ghost use Rattle.kernel.specs.Promise.{Plainly};
 ghost use Rattle.desk.specs.Line.{Turned, Line};
-ghost use Rattle.desk.specs.Told.{Told};
+ghost use Rattle.desk.specs.Tell.{Told};
 use kernel::Done;
 use kernel::Kernel;
 use script::Request;
