@@ -10,7 +10,7 @@ ghost use Rattle.plain.specs.Sizes.{classes};
 ghost use Rattle.queues.specs.Queue.{num, tablesOf};
 ghost use Rattle.procs.specs.Stands.{numbers};
 ghost use Rattle.seats.specs.Seats.{Answer};
-ghost use Rattle.seats.specs.Fits.{Found, Block, Vacant, Seat, AllSeats, readyIn, Topmost, Fits};
+ghost use Rattle.seats.specs.Fits.{Found, Block, Vacant, Seat, AllSeats, otherRunner, readyIn, Topmost, Fits};
 use procs::Procs;
 use queues::Queues;
 use queues::bytes_of;
@@ -21,6 +21,8 @@ use sizes::Pid;
 const CLASSES: u8 = sizes::CLASSES as u8;
 
 const NODES: usize = sizes::PROCESSES + sizes::QUEUES;
+
+const NOBODY: u8 = sizes::PROCESSES as u8;
 
 // Whether the links are rings, and in which queue each process then stands.
 fn places_of(queues: Queues) -> Places
@@ -84,9 +86,20 @@ fn seat_fits(at: u8, runs: bool, class: u8, ticks: u8, unused: bool, slice: u8) 
     block_fits(at, class, ticks, slice)
 }
 
-// Whether every process has its seat. All are asked, with no early exit: so compiled, several at once.
+// Who runs, or a number that is no process where 0 does.
+fn other_runner(running: u8) -> u8
+    ensures { λ r. ⌜ r ≡ otherRunner running ⌝ }
+{
+    if running == 0 {
+        return NOBODY;
+    }
+    running
+}
+
+// Whether every process has its seat; 0, whether it runs or not, has that of an unused one. All are asked, with no early exit: so compiled,
+// several at once.
 fn seats_fit(
-    running: usize,
+    running: u8,
     at: [u8; PROCESSES],
     class: [u8; PROCESSES],
     ticks: [u8; PROCESSES],
@@ -98,14 +111,13 @@ fn seats_fit(
     if bits::has_bit(unused, 0) {
         return false;
     }
-    if !is_vacant(at[0], false, class[0], ticks[0]) {
-        return false;
-    }
+    let vacant = bits::with_bit(unused, 0);
+    let runner = other_runner(running);
     let mut all = true;
-    let mut p = 1;
+    let mut p = 0;
     while p < PROCESSES {
-        let bit = bits::has_bit(unused, p as u32);
-        all = all & seat_fits(at[p], running == p, class[p], ticks[p], bit, slice);
+        let bit = bits::has_bit(vacant, p as u32);
+        all = all & seat_fits(at[p], runner == p as u8, class[p], ticks[p], bit, slice);
         p += 1;
     }
     all
@@ -160,7 +172,7 @@ fn procs_fit(k: Procs, at: [u8; PROCESSES], slice: u8) -> bool
     }
     let class = k.class;
     let ticks = k.ticks;
-    if !seats_fit(running, at, class, ticks, k.unused, slice) {
+    if !seats_fit(k.running.0, at, class, ticks, k.unused, slice) {
         return false;
     }
     let queues = k.queues;
