@@ -33,14 +33,15 @@ pub record State : Type 0 where
   pub settings : Settings
 
 -- "A fresh kernel: 0 runs, the others unused, all queues and mailboxes empty, all counts 0."
+abbrev pub start : Settings → State
+start x = record { procs = record { running = 0; queue = λ q. []; class = λ p. 0; ticks = λ p. 0 }; hand = λ p. none; box = λ m. []; count = λ k. 0; settings = x }
+
+-- where no settings are named
+abbrev pub usual : Settings
+usual = record { slice = slice }
+
 abbrev pub fresh : State
-fresh = record {
-  procs = record { running = 0; queue = λ q. []; class = λ p. 0; ticks = λ p. 0 };
-  hand = λ p. none;
-  box = λ m. [];
-  count = λ k. 0;
-  settings = record { slice = slice };
-}
+fresh = start usual
 
 -- the class by which p is queued and compared
 abbrev pub level : Procs → ℕ → ℕ

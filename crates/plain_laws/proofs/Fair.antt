@@ -16,6 +16,7 @@ use Rattle.plain.specs.Calls.{Call, step}
 use Rattle.plain.specs.Sound.{Seated, Sound}
 use Rattle.plain_laws.specs.Moves.{rid, leave, toRear, settle, Move, stay, idle, spend, again, rear, pause, halt, Others, none, also, Chain}
 use Rattle.plain_laws.specs.History.{kind, isTick, as-one, Ready, onDuty, leads, isAhead, countAhead, isOver, ticksSeen, turnsBefore}
+use Rattle.plain_laws.specs.Theorems.{Fair}
 use Rattle.plain_laws.proofs.Places.{runs-once, leave-gone, rear-other, rear-elsewhere, rear-there}
 use Rattle.plain_laws.proofs.Seats.{member, runner-range, queue-once, queued-rests, move-seated, chain-seated}
 use Rattle.plain_laws.proofs.Settle.{settle-kept}
@@ -255,11 +256,11 @@ sees p s (c ∷ cs) k o =
     ⊎-elim (λ e. rw e (omega arith)) (λ e. rw e rest) (either (isOver (s .procs) p))
 
 -- the first half
-pub few-ticks : (p : ℕ) (s : State) (cs : List Call) → Sound s → Ready (s .procs) p → ticksSeen p s cs ≤ s .settings .slice * countAhead (s .procs) p
+few-ticks : (p : ℕ) (s : State) (cs : List Call) → Sound s → Ready (s .procs) p → ticksSeen p s cs ≤ s .settings .slice * countAhead (s .procs) p
 few-ticks p s cs k o = omega (arith, sees p s cs k o, sum-bound (s .settings .slice) p (s .procs) (k .seated) o)
 
 -- who is not ahead of p does not come to be
-pub nobody-passes : (x p : ℕ) (s : State) (cs : List Call) → Sound s → Ready (s .procs) p → isAhead (s .procs) p x ≡ false → turnsBefore x p s cs ≡ 0
+nobody-passes : (x p : ℕ) (s : State) (cs : List Call) → Sound s → Ready (s .procs) p → isAhead (s .procs) p x ≡ false → turnsBefore x p s cs ≡ 0
 unfolding turnsBefore
 nobody-passes x p s [] k o a = refl
 nobody-passes x p s (c ∷ cs) k o a =
@@ -274,7 +275,7 @@ nobody-passes x p s (c ∷ cs) k o a =
     (onward p s c k o)
 
 -- who joined the rear of p's class, where p stands before it, is not ahead of p
-pub rear-behind : (n x p : ℕ) (s : Procs) (l : List ℕ) → Seated n s → s .queue (level s p) ≡ l ++ (x ∷ []) → 1 ≤ occurs p l → isAhead s p x ≡ false
+rear-behind : (n x p : ℕ) (s : Procs) (l : List ℕ) → Seated n s → s .queue (level s p) ≡ l ++ (x ∷ []) → 1 ≤ occurs p l → isAhead s p x ≡ false
 rear-behind n x p s l k e o =
     let c : ℕ = level s p in
     let twice : occurs x (s .queue c) ≡ occurs x l + 1 = ap (occurs x) e ∙ omega (arith, occurs-rear x x l, one-same x) in
@@ -284,3 +285,10 @@ rear-behind n x p s l k e o =
     (λ (b : leads x p (s .queue c) ≡ true). absurd (omega (arith, leads-in x p l (sym (leads-rear x p l (x ∷ []) o) ∙ (ap (leads x p) (sym e) ∙ b)))))
     (λ b. b) (either (leads x p (s .queue c))) in
     rw (off, after) refl
+
+pub fair : (s : State) (p : ℕ) → Sound s → Ready (s .procs) p → Fair s p
+fair s p k o = record {
+  few-ticks = λ cs. few-ticks p s cs k o;
+  nobody-passes = λ x cs e. nobody-passes x p s cs k o e;
+  rear-waits = λ x l cs e b. nobody-passes x p s cs k o (rear-behind (s .settings .slice) x p (s .procs) l (k .seated) e b);
+}

@@ -7,7 +7,7 @@ use mathlib.Core.List.{List, [], _∷_}
 use native.Mathlib.Omega.{arith}
 use lib.ListN.{length}
 use lib.Dec.{eqb}
-use Rattle.plain.specs.State.{State, fresh}
+use Rattle.plain.specs.State.{Settings, State, start}
 use Rattle.plain.specs.Calls.{Call, Refusal, refused, perform, refusals, step, after}
 use Rattle.plain_laws.specs.History.{kind, Kind, sent, gone}
 use Rattle.plain_laws.proofs.Accepted.{Even, accepts}
@@ -26,5 +26,5 @@ unfolding sent gone after
 counted m s [] = omega arith
 counted m s (c ∷ cs) = omega (arith, step-even m s c, counted m ((step s c) .next) cs)
 
-pub counted-from-fresh : (m : ℕ) (cs : List Call) → sent m fresh cs ≡ length ((after fresh cs) .box m) + gone m fresh cs
-counted-from-fresh m cs = omega (arith, counted m fresh cs)
+pub counted-from-start : (x : Settings) (m : ℕ) (cs : List Call) → sent m (start x) cs ≡ length ((after (start x) cs) .box m) + gone m (start x) cs
+counted-from-start x m cs = omega (arith, counted m (start x) cs)

@@ -12,10 +12,10 @@ use borrow.Author.Tests.{ltb-false, leb-false, eqb-false, not-false}
 use Rattle.lists.specs.Lists.{put, occurs}
 use Rattle.lists.proofs.Laws.{same?, put-same, put-other, put-cases, one-other, total-zero}
 use Rattle.plain.specs.Sizes.{processes, classes, mailboxes, semaphores, queues, capacity, longest, highestCount, atMailbox, atSemaphore}
-use Rattle.plain.specs.State.{Message, Procs, State, fresh, move, give, fill, score, line, places, spots, held, freeBuffer}
+use Rattle.plain.specs.State.{Message, Procs, Settings, State, start, usual, move, give, fill, score, line, places, spots, held, freeBuffer}
 use Rattle.plain.specs.Runs.{makeReady, goTo, halt}
 use Rattle.plain.specs.Calls.{Call, create, stop, end, yield, class, tick, send, receive, read, release, signal, wait, perform, refusals, step, after, stopped, deliver, fetch, wake, claim, isEmpty}
-use Rattle.plain.specs.Sound.{Seated, Mail, Hands, Waits, Counts, Sound, In}
+use Rattle.plain.specs.Sound.{Set, Seated, Mail, Hands, Waits, Counts, Sound, In}
 use Rattle.plain_laws.specs.History.{Passed, kind, isTick, as-one}
 use Rattle.plain_laws.proofs.Places.{runs-once}
 use Rattle.plain_laws.proofs.Seats.{member, head-in, runner-range, runner-away, chain-seated}
@@ -234,13 +234,16 @@ module _ (s : State) (k : Sound s) where
 
 -- ---- from fresh
 
-pub fresh-sound : Sound fresh
+pub usual-set : Set usual
+usual-set = record { three-ticks = refl }
+
+pub start-sound : (x : Settings) → Set x → Sound (start x)
 unfolding spots held
-fresh-sound =
-    let nowhere : (p : ℕ) → 1 ≤ p → places (fresh .procs) p ≡ 0 = λ p h. omega (arith, total-zero queues (λ q. 0) (λ q b. refl), one-other 0 p (omega arith)) in
-    let nothing : (b : ℕ) → held (fresh .box) (fresh .hand) b ≡ 0 = λ b. omega (arith, total-zero mailboxes (λ m. 0) (λ m d. refl), total-zero processes (λ p. 0) (λ p d. refl)) in
+start-sound x z =
+    let nowhere : (p : ℕ) → 1 ≤ p → places (start x .procs) p ≡ 0 = λ p h. omega (arith, total-zero queues (λ q. 0) (λ q b. refl), one-other 0 p (omega arith)) in
+    let nothing : (b : ℕ) → held (start x .box) (start x .hand) b ≡ 0 = λ b. omega (arith, total-zero mailboxes (λ m. 0) (λ m d. refl), total-zero processes (λ p. 0) (λ p d. refl)) in
     record {
-      settings = record { three-ticks = refl };
+      settings = z;
       seated = record {
         one-place = λ p h. omega (arith, nowhere p h);
         own-class = λ c p h o. absurd (omega arith);

@@ -6,16 +6,17 @@ use mathlib.Core.Bool.{true, false}
 use mathlib.Core.List.{List, [], _∷_, _++_}
 use lib.ListN.{length}
 use Rattle.lists.specs.Lists.{occurs}
-use Rattle.plain.specs.State.{State, fresh, level}
+use Rattle.plain.specs.State.{Settings, State, start, usual, level}
 use Rattle.plain.specs.Calls.{Call, Answer, Refusal, refusals, refused, step, answers, after}
-use Rattle.plain.specs.Sound.{Sound}
+use Rattle.plain.specs.Sound.{Set, Sound}
 use Rattle.plain_laws.specs.History.{First, codes, inOrder, order, isRefusal, sent, gone, Ready, isAhead, countAhead, ticksSeen, turnsBefore}
 
--- 1. A fresh state is sound, every call keeps that, and so every state that calls lead to from fresh is sound. No call changes the settings.
+-- 1. A fresh state is sound with any settings x that may be set, the usual ones among them; every call keeps that, and so every state that calls lead to from fresh is sound. No call changes the settings.
 pub record Soundness : Type 0 where
-  pub at-first : Sound fresh
+  pub usual-set : Set usual
+  pub at-first : (x : Settings) → Set x → Sound (start x)
   pub kept : (s : State) (c : Call) → Sound s → Sound (step s c .next)
-  pub always : (cs : List Call) → Sound (after fresh cs)
+  pub always : (x : Settings) (cs : List Call) → Set x → Sound (after (start x) cs)
   pub settings-stay : (s : State) (c : Call) → step s c .next .settings ≡ s .settings
 
 -- 2. A refusal is given where its condition holds and none before it in the order does, and at no other time; it changes nothing.
@@ -27,10 +28,10 @@ pub record Refusals : Type 0 where
 
 -- 3. "Over any calls from fresh, for each mailbox: accepted sends equal messages queued now plus messages that went from it into a hand."
 abbrev pub Messages : Type 0
-Messages = (m : ℕ) (cs : List Call) → sent m fresh cs ≡ length (after fresh cs .box m) + gone m fresh cs
+Messages = (x : Settings) (m : ℕ) (cs : List Call) → sent m (start x) cs ≡ length (after (start x) cs .box m) + gone m (start x) cs
 
 -- 4. Demand 3, for every p that is ready in a state that calls lead to from fresh, however it came to be, whatever is called then (cs).
--- The slice is the state's: 3 in fresh, and no call changes it (1). Nothing of it is used but that it is at least 1.
+-- The slice is the state's: that of x, and no call changes it (1). Nothing of it is used but that it is at least 1.
 pub record Fair (s : State) (p : ℕ) : Type 0 where
   -- "sees at most 3 k ticks fall while its class runs before it runs or is stopped", k of its class being ahead of it
   pub few-ticks : (cs : List Call) → ticksSeen p s cs ≤ s .settings .slice * countAhead (s .procs) p
@@ -40,7 +41,7 @@ pub record Fair (s : State) (p : ℕ) : Type 0 where
   pub rear-waits : (x : ℕ) (l : List ℕ) (cs : List Call) → s .procs .queue (level (s .procs) p) ≡ l ++ (x ∷ []) → 1 ≤ occurs p l → turnsBefore x p s cs ≡ 0
 
 abbrev pub Fairness : Type 0
-Fairness = (cs : List Call) (p : ℕ) → Ready (after fresh cs .procs) p → Fair (after fresh cs) p
+Fairness = (x : Settings) (cs : List Call) (p : ℕ) → Set x → Ready (after (start x) cs .procs) p → Fair (after (start x) cs) p
 
 -- 5. A kernel that refuses everything, answers a constant or never moves would meet 4 alone: nobody ever becomes ready, or nobody behind another.
 -- It does not answer as the plain kernel does, which demand 2 asks: two creates from fresh are accepted, with two different numbers.
@@ -54,10 +55,10 @@ abbrev pub replies : (K : Kernel) → K .Memory → List Call → List (Answer �
 replies K s [] = []
 replies K s (c ∷ cs) = K .reply s c ∷ replies K (K .next s c) cs
 
-abbrev pub AnswersAsPlain : Kernel → Type 0
-AnswersAsPlain K = (cs : List Call) → replies K (K .start) cs ≡ answers fresh cs
+abbrev pub AnswersAsPlain : Settings → Kernel → Type 0
+AnswersAsPlain x K = (cs : List Call) → replies K (K .start) cs ≡ answers (start x) cs
 
 pub record UselessShutOut : Type 1 where
-  pub refuses-all : (K : Kernel) → ((s : K .Memory) (c : Call) → isRefusal (K .reply s c .0) ≡ true) → AnswersAsPlain K → ⊥
-  pub constant : (K : Kernel) (a : Answer × List ℕ) → ((s : K .Memory) (c : Call) → K .reply s c ≡ a) → AnswersAsPlain K → ⊥
-  pub never-moves : (K : Kernel) → ((s : K .Memory) (c : Call) → K .next s c ≡ s) → AnswersAsPlain K → ⊥
+  pub refuses-all : (x : Settings) (K : Kernel) → ((s : K .Memory) (c : Call) → isRefusal (K .reply s c .0) ≡ true) → AnswersAsPlain x K → ⊥
+  pub constant : (x : Settings) (K : Kernel) (a : Answer × List ℕ) → ((s : K .Memory) (c : Call) → K .reply s c ≡ a) → AnswersAsPlain x K → ⊥
+  pub never-moves : (x : Settings) (K : Kernel) → ((s : K .Memory) (c : Call) → K .next s c ≡ s) → AnswersAsPlain x K → ⊥

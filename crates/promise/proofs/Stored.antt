@@ -1,7 +1,7 @@
 -- Every message that is held stands whole in the store, with what a call writes, and a room shows the message in hand.
 -- Assumes nothing.
 use Prim.Native.Nat.{ℕ, zero, suc, _+_, _*_, _≤_, _<_}
-use mathlib.Core.Bool.{false}
+use mathlib.Core.Bool.{Bool, true, false}
 use mathlib.Core.List.{List, [], _∷_, _++_}
 use mathlib.Core.Logic.{_≢_, ⊎-elim}
 use mathlib.Core.Option.{Option, none, some}
@@ -9,26 +9,26 @@ use mathlib.Core.Path.{_≡_, refl, sym, ap, _∙_, subst}
 use native.Mathlib.Nat.{mul-le-mul-left}
 use native.Mathlib.Omega.{arith}
 use lib.Dec.{eqb}
-use lib.ListN.{length, drop}
-use lib.Seq.{take-append-seam}
-use borrow.Author.Tests.{eqb-false, ltb-false}
+use lib.ListN.{length, take, drop, length-drop}
+use lib.Seq.{take-length, take-append-le, length-take-le}
+use borrow.Author.Tests.{eqb-true, eqb-false, ltb-false, not-false}
 use Rattle.lists.proofs.Laws.{put-cases, one-same, le?}
-use Rattle.lists.specs.Lists.{put, one, occurs}
+use Rattle.lists.specs.Lists.{if_then_else_, put, one, occurs}
 use Rattle.plain.specs.Calls as Plain
 use Rattle.plain.specs.Calls.{create, stop, end, yield, class, tick, send, receive, read, release, signal, wait}
 use Rattle.plain.specs.Sizes.{buffers, bufferSize, storeSize, longest, atMailbox, atSemaphore}
 use Rattle.plain.specs.Sound.{Sound, AllShort, Short}
-use Rattle.plain.specs.State.{Message, State, fresh, buffersOf, inHand, held, freeBuffer}
+use Rattle.plain.specs.State.{Message, Settings, State, start, lies, buffersOf, inHand, held, freeBuffer}
 use Rattle.plain_laws.proofs.Mail.{free-nowhere, not-queued, not-in-hand}
 use Rattle.plain_laws.proofs.Refusals.{judge-cases, nonzero}
 use Rattle.plain_laws.specs.History.{Passed}
 use Rattle.promise.specs.Lent.{Lent, lends}
-use Rattle.promise.specs.Promise.{written, storeAfter, roomAfter, inStore, StoredAll, Stored}
+use Rattle.promise.specs.Promise.{noStore, withStore, written, storeAfter, roomAfter, inStore, StoredAll, Stored}
 use Rattle.promise.specs.Theorems.{shown}
 use Rattle.promise.proofs.Buffers.{anew-long, anew-there, other-kept}
 
-pub fresh-stored : (store : List ℕ) → length store ≡ storeSize → Stored store fresh
-fresh-stored store e = record { long = e; queued = λ m. tt; in-hands = λ p. refl }
+pub start-stored : (x : Settings) (store : List ℕ) → length store ≡ storeSize → Stored store (start x)
+start-stored x store e = record { long = e; queued = λ m. tt; in-hands = λ p. refl }
 
 -- ---- calls that write nothing
 
@@ -48,7 +48,7 @@ module _ (store : List ℕ) (s : State) (k : Stored store s) where
         (put-cases (λ (a : Option Message). inStore store a ≡ Plain.bytesIn a) (s .hand) p none q (λ d. refl) (λ d. k .in-hands q));
   }
 
-  fetched : (m : ℕ) (l : List Message) → s .box m ≡ l → (Plain.fetch m l s .message ≡ []) × Stored store (Plain.fetch m l s .next)
+  fetched : (m : ℕ) (l : List Message) → s .box m ≡ l → ([] ≡ Plain.fetch m l s .message) × Stored store (Plain.fetch m l s .next)
   fetched m [] e = (refl, moved (Plain.fetch m [] s .next) refl refl)
   fetched m (x ∷ l) e =
       let was : StoredAll store (x ∷ l) = subst (StoredAll store) e (k .queued m) in (
@@ -64,7 +64,7 @@ module _ (store : List ℕ) (s : State) (k : Stored store s) where
   woken i [] = moved (Plain.wake i [] s) refl refl
   woken i (w ∷ l) = moved (Plain.wake i (w ∷ l) s) refl refl
 
-  claimed : (i n : ℕ) → (Plain.claim i n s .message ≡ []) × Stored store (Plain.claim i n s .next)
+  claimed : (i n : ℕ) → ([] ≡ Plain.claim i n s .message) × Stored store (Plain.claim i n s .next)
   claimed i zero = (refl, moved (Plain.claim i zero s .next) refl refl)
   claimed i (suc n) = (refl, moved (Plain.claim i (suc n) s .next) refl refl)
 
@@ -79,6 +79,10 @@ longest-is : longest ≡ bufferSize
 unfolding longest
 longest-is = refl
 
+-- a message that lies in no buffer past the last lies in one that is there
+pub in-range : (x : Message) (l : List ℕ) → ((j : ℕ) → buffers ≤ j → occurs j (lies x ++ l) ≡ 0) → x .buffer < buffers
+in-range x l r = ⊎-elim (λ (z : buffers ≤ x .buffer). absurd (omega (arith, r (x .buffer) z, one-same (x .buffer)))) (λ z. z) (le? buffers (x .buffer))
+
 -- a message in another buffer stands as it stood
 module _ (store : List ℕ) (long : length store ≡ storeSize) (i : ℕ) (b : List ℕ) (hi : i < buffers) (hb : length b ≤ longest) where
   one-kept : (x : Message) → x .buffer ≢ i → x .buffer < buffers → length (x .bytes) ≤ longest → inStore store (some x) ≡ x .bytes → inStore (written store i b) (some x) ≡ x .bytes
@@ -89,16 +93,13 @@ module _ (store : List ℕ) (long : length store ≡ storeSize) (i : ℕ) (b : L
   all-kept : (l : List Message) → occurs i (buffersOf l) ≡ 0 → ((j : ℕ) → buffers ≤ j → occurs j (buffersOf l) ≡ 0) → AllShort l → StoredAll store l → StoredAll (written store i b) l
   all-kept [] o r h e = tt
   all-kept (x ∷ l) o r h e = (
-    one-kept x (λ z. omega (arith, subst (λ (y : ℕ). one (x .buffer) y ≡ 1) z (one-same (x .buffer))))
-        (⊎-elim (λ z. absurd (omega (arith, r (x .buffer) z, one-same (x .buffer)))) (λ z. z) (le? buffers (x .buffer))) (h .0) (e .0),
+    one-kept x (λ z. omega (arith, subst (λ (y : ℕ). one (x .buffer) y ≡ 1) z (one-same (x .buffer)))) (in-range x (buffersOf l) r) (h .0) (e .0),
     all-kept l (omega arith) (λ j z. omega (arith, r j z)) (h .1) (e .1),
   )
 
   hand-kept : (h : Option Message) → occurs i (inHand h) ≡ 0 → ((j : ℕ) → buffers ≤ j → occurs j (inHand h) ≡ 0) → Short h → inStore store h ≡ Plain.bytesIn h → inStore (written store i b) h ≡ Plain.bytesIn h
   hand-kept none o r h e = refl
-  hand-kept (some x) o r h e =
-      one-kept x (λ z. omega (arith, subst (λ (y : ℕ). one (x .buffer) y ≡ 1) z (one-same (x .buffer))))
-      (⊎-elim (λ z. absurd (omega (arith, r (x .buffer) z, one-same (x .buffer)))) (λ z. z) (le? buffers (x .buffer))) h e
+  hand-kept (some x) o r h e = one-kept x (λ z. omega (arith, subst (λ (y : ℕ). one (x .buffer) y ≡ 1) z (one-same (x .buffer)))) (in-range x [] r) h e
 
   new-there : inStore (written store i b) (some (record { buffer = i; bytes = b })) ≡ b
   new-there = anew-there store (bufferSize * i) b (omega (arith, long, inside i (length b) hi (omega (arith, longest-is))))
@@ -150,37 +151,74 @@ module _ (store : List ℕ) (s : State) (k : Sound s) (st : Stored store s) (m :
 
 -- ---- every call
 
--- What comes of what a call is lent: the store, written or not, holds what is held then, and bytes are shown in a room only, those of the message in hand.
-abbrev pub Kept : List ℕ → State → Lent → Plain.Outcome → Type 0
-Kept store s Lent.nothing o = (o .message ≡ []) × Stored store (o .next)
-Kept store s (Lent.bytes b) o = (o .message ≡ []) × Stored (storeAfter store o s b) (o .next)
-Kept store s (Lent.room n) o = ((room : List ℕ) → shown (o .answer) (roomAfter store room o s) ≡ o .message) × Stored store (o .next)
+-- what is shown in a room, and the store that is left, by what the call is lent
+abbrev pub leaves : Lent → List ℕ → Plain.Outcome → State → List ℕ × List ℕ
+leaves Lent.nothing store o s = ([], store)
+leaves (Lent.bytes b) store o s = ([], storeAfter store o s b)
+leaves (Lent.room n) store o s = (shown (o .answer) (inStore store (Plain.hand s)), store)
 
-module _ (store : List ℕ) (s : State) (k : Sound s) (st : Stored store s) where
+-- a call that takes a room and is done tells how long the message in hand is
+abbrev Tells : State → Lent → Plain.Outcome → Type 0
+Tells s Lent.nothing o = Unit {0}
+Tells s (Lent.bytes b) o = Unit {0}
+Tells s (Lent.room n) o = o .answer .code ≡ 0 → o .answer .number ≡ length (Plain.bytesIn (Plain.hand s))
+
+-- and over a store that holds every message, the message that it gives is shown, and the store holds what is held then
+abbrev Kept : List ℕ → State → Lent → Plain.Outcome → Type 0
+Kept store s l o = Tells s l o × (Stored store s → (leaves l store o s .0 ≡ o .message) × Stored (leaves l store o s .1) (o .next))
+
+module _ (store : List ℕ) (s : State) (k : Sound s) where
   refused-kept : (l : Lent) (r : Plain.Refusal) → eqb (r .code) 0 ≡ false → Kept store s l (Plain.refused r s)
-  refused-kept Lent.nothing r e = (refl, st)
-  refused-kept (Lent.bytes b) r e = (refl, rw e st)
-  refused-kept (Lent.room n) r e = (λ room. rw e refl, st)
+  refused-kept Lent.nothing r e = (tt, λ st. (refl, st))
+  refused-kept (Lent.bytes b) r e = (tt, λ st. (refl, rw e st))
+  refused-kept (Lent.room n) r e = (λ z. absurd (eqb-false (r .code) 0 e z), λ st. (rw e refl, st))
 
   performed : (c : Plain.Call) → Passed (Plain.refusals s c) → Kept store s (lends c) (Plain.perform s c)
   unfolding Plain.perform Plain.refusals
-  performed (create c) p = (refl, moved store s st _ refl refl)
-  performed (stop i) p = (refl, let-go store s st i _ refl refl)
-  performed end p = (refl, let-go store s st (Plain.caller s) _ refl refl)
-  performed yield p = (refl, moved store s st _ refl refl)
-  performed (class c) p = (refl, moved store s st _ refl refl)
-  performed tick p = (refl, moved store s st _ refl refl)
-  performed (send m b) p = (refl, delivered store s k st m b (ltb-false longest (length b) (p .1 .0)) (p .1 .1 .1 .0) (s .procs .queue (atMailbox m)))
-  performed (receive m) p = fetched store s st m (s .box m) refl
-  performed (read n) p =
-      let m : List ℕ = Plain.bytesIn (Plain.hand s) in
-      (λ room. rw (st .in-hands (Plain.caller s)) (take-append-seam m (drop (length m) room)), st)
-  performed release p = (refl, let-go store s st (Plain.caller s) _ refl refl)
-  performed (signal i) p = (refl, woken store s st i (s .procs .queue (atSemaphore i)))
-  performed (wait i) p = claimed store s st i (s .count i)
+  performed (create c) p = (tt, λ st. (refl, moved store s st _ refl refl))
+  performed (stop i) p = (tt, λ st. (refl, let-go store s st i _ refl refl))
+  performed end p = (tt, λ st. (refl, let-go store s st (Plain.caller s) _ refl refl))
+  performed yield p = (tt, λ st. (refl, moved store s st _ refl refl))
+  performed (class c) p = (tt, λ st. (refl, moved store s st _ refl refl))
+  performed tick p = (tt, λ st. (refl, moved store s st _ refl refl))
+  performed (send m b) p = (tt, λ st. (refl, delivered store s k st m b (ltb-false longest (length b) (p .1 .0)) (p .1 .1 .1 .0) (s .procs .queue (atMailbox m))))
+  performed (receive m) p = (tt, λ st. fetched store s st m (s .box m) refl)
+  performed (read n) p = (λ z. refl, λ st. (rw (st .in-hands (Plain.caller s)) (take-length (Plain.bytesIn (Plain.hand s))), st))
+  performed release p = (tt, λ st. (refl, let-go store s st (Plain.caller s) _ refl refl))
+  performed (signal i) p = (tt, λ st. (refl, woken store s st i (s .procs .queue (atSemaphore i))))
+  performed (wait i) p = (tt, λ st. claimed store s st i (s .count i))
 
-  pub step-kept : (c : Plain.Call) {l : Lent} → lends c ≡ l → Kept store s l (Plain.step s c)
+  pub step-kept : (c : Plain.Call) → Kept store s (lends c) (Plain.step s c)
   unfolding Plain.step
-  step-kept c is =
-      subst (λ (l : Lent). Kept store s l (Plain.step s c)) is
-      (judge-cases (Kept store s (lends c)) (Plain.refusals s c) s (Plain.perform s c) (nonzero s c) (λ r e. refused-kept (lends c) r e) (performed c))
+  step-kept c = judge-cases (Kept store s (lends c)) (Plain.refusals s c) s (Plain.perform s c) (nonzero s c) (λ r e. refused-kept (lends c) r e) (performed c)
+
+  -- the message in hand is as long in a whole store
+  hand-long : length store ≡ storeSize → (h : Option Message) → ((j : ℕ) → buffers ≤ j → occurs j (inHand h) ≡ 0) → Short h → length (inStore store h) ≡ length (Plain.bytesIn h)
+  hand-long e none r z = refl
+  hand-long e (some x) r z =
+      length-take-le (length (x .bytes)) (drop (bufferSize * x .buffer) store)
+      (omega (arith, e, length-drop (bufferSize * x .buffer) store, inside (x .buffer) (length (x .bytes)) (in-range x [] r) (omega (arith, longest-is))))
+
+  module _ (c : Plain.Call) {n : ℕ} (is : lends c ≡ Lent.room n) where
+    -- a call that takes a room tells how long the message in hand is in the store
+    pub told-long : withStore store c s .answer .code ≡ 0 → withStore store c s .answer .number ≡ length (inStore store (Plain.hand s))
+    unfolding withStore
+    told-long =
+        judge-cases (λ (o : Plain.Outcome). o .answer .code ≡ 0 → o .answer .number ≡ length (inStore store (Plain.hand s))) (noStore store ∷ []) s (Plain.step s c) (refl, tt)
+        (λ r e z. absurd (eqb-false (r .code) 0 e z))
+        (λ whole z. (rw is at (step-kept c .0)) z
+        ∙ sym (hand-long (eqb-true (length store) storeSize (not-false _ (whole .0))) (Plain.hand s) (λ j h. in-no-hand s k j (k .mail .no-more-buffers j h) (Plain.caller s)) (k .mail .hands-short (Plain.caller s))))
+
+    -- and shows it there as it lies in the store, whatever else the room holds
+    pub room-shown : (room : List ℕ) → shown (withStore store c s .answer) (roomAfter store room (withStore store c s) s) ≡ shown (withStore store c s .answer) (inStore store (Plain.hand s))
+    room-shown room = go (eqb (withStore store c s .answer .code) 0) refl
+      where
+        m : List ℕ
+        m = inStore store (Plain.hand s)
+
+        a : Plain.Answer
+        a = withStore store c s .answer
+
+        go : (t : Bool) → eqb (a .code) 0 ≡ t → (if t then take (a .number) (if t then m ++ drop (length m) room else room) else []) ≡ (if t then take (a .number) m else [])
+        go true e = take-append-le (a .number) m (drop (length m) room) (omega (arith, told-long (eqb-true (a .code) 0 e)))
+        go false e = refl

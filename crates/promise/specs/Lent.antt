@@ -29,8 +29,3 @@ abbrev pub isRoom : Lent → Bool
 isRoom nothing = false
 isRoom (bytes b) = false
 isRoom (room n) = true
-
-abbrev pub isNothing : Lent → Bool
-isNothing nothing = true
-isNothing (bytes b) = false
-isNothing (room n) = false

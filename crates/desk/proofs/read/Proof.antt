@@ -6,7 +6,7 @@ use lib.ListN.{take, replicate}
 use lib.Seq.{length-take-le}
 use borrow.Author.Needs.{needs}
 use Rattle.script.specs.Grammar.{largestRoom}
-use Rattle.desk.proofs.Turns.{zeros, shown-there, read-refused, read-shown}
+use Rattle.desk.proofs.Turns.{shown-there, read-refused, read-shown}
 use Rattle.desk.proofs.read.Statement.{statement}
 use Rattle.desk.proofs.read.Tie as tie
 
@@ -26,7 +26,7 @@ same-length : tie.Need-same-length
 same-length c = search needs
 
 returns : tie.Need-returns
-returns c = read-refused (c .before .before .before .before .before .before .before .before .read .result) (zeros (c .before .before .before .before .before .before .before .before .before .before .before .before .args .n) largestRoom (search needs)) (c .before .before .before .before .before .before .before .before .read .ensures) (c .before .before .before .before .if1 .taken) (c .before .before .tell .ensures)
+returns c = read-refused (c .before .before .before .before .before .before .before .before .read .result) (length-take-le (c .before .before .before .before .before .before .before .before .before .before .before .before .args .n) (replicate {A = ℕ} largestRoom 0) (search needs)) (c .before .before .before .before .before .before .before .before .read .ensures) (c .before .before .before .before .if1 .taken) (c .before .before .tell .ensures)
 
 cast-shown : tie.Need-cast-shown
 cast-shown c = search needs
@@ -44,7 +44,7 @@ same-length-2 : tie.Need-same-length-2
 same-length-2 c = search needs
 
 returns-2 : tie.Need-returns-2
-returns-2 c = read-shown (c .before .before .before .before .before .before .before .before .before .before .before .read .result) (zeros (c .before .before .before .before .before .before .before .before .before .before .before .before .before .before .before .args .n) largestRoom (search needs)) (c .before .before .before .before .before .before .before .before .before .before .before .read .ensures) _ (c .before .before .before .before .before .before .before .if1 .left) refl (c .before .before .put-read-line .ensures)
+returns-2 c = read-shown (c .before .before .before .before .before .before .before .before .before .before .before .read .result) (length-take-le (c .before .before .before .before .before .before .before .before .before .before .before .before .before .before .before .args .n) (replicate {A = ℕ} largestRoom 0) (search needs)) (c .before .before .before .before .before .before .before .before .before .before .before .read .ensures) _ (c .before .before .before .before .before .before .before .if1 .left) refl (c .before .before .put-read-line .ensures)
 
 pub read-spec : {M : Type 1} → statement M
 read-spec =
