@@ -22,13 +22,13 @@ abbrev FitsQueues : Queues → Type 0
 FitsQueues q = Array nodes FitsPid (q .next) × Array nodes FitsPid (q .prev)
 
 abbrev FitsProcs : Procs → Type 0
-FitsProcs p = ((((FitsPid (p .running) × Array processes U8 (p .class)) × Array processes U8 (p .ticks)) × FitsQueues (p .queues)) × U32 (p .ready)) × U32 (p .unused)
+FitsProcs p = ((((FitsPid (p .running) × Array processes U8 (p .class)) × Array processes U8 (p .ticks)) × FitsQueues (p .queues)) × U32 (p .ready)) × U32 (p .unused .0)
 
 abbrev FitsBoxes : Boxes → Type 0
 FitsBoxes b = Array boxNodes FitsBid (b .next) × Array boxNodes FitsBid (b .prev)
 
 abbrev FitsMail : Mail → Type 0
-FitsMail m = (((FitsBoxes (m .boxes) × Array processes FitsBid (m .hand)) × U32 (m .full)) × Array buffers U16 (m .length)) × U32 (m .free)
+FitsMail m = (((FitsBoxes (m .boxes) × Array processes FitsBid (m .hand)) × U32 (m .full .0)) × Array buffers U16 (m .length)) × U32 (m .free .0)
 
 abbrev FitsKernel : Kernel → Type 0
 FitsKernel k = (FitsProcs (k .procs) × FitsMail (k .mail)) × Array semaphores U16 (k .count)
@@ -47,14 +47,14 @@ boxes-code = through (λ (b : Boxes). (b .next, b .prev)) (λ t. record { next =
 
 procs-code : Code procs procsLong FitsProcs
 procs-code =
-    through (λ (p : Procs). (((((p .running, p .class), p .ticks), p .queues), p .ready), p .unused))
-    (λ t. record { running = t .0 .0 .0 .0 .0; class = t .0 .0 .0 .0 .1; ticks = t .0 .0 .0 .1; queues = t .0 .0 .1; ready = t .0 .1; unused = t .1 }) (λ t. refl) (λ p. refl)
+    through (λ (p : Procs). (((((p .running, p .class), p .ticks), p .queues), p .ready), p .unused .0))
+    (λ t. record { running = t .0 .0 .0 .0 .0; class = t .0 .0 .0 .0 .1; ticks = t .0 .0 .0 .1; queues = t .0 .0 .1; ready = t .0 .1; unused = record { 0 = t .1 } }) (λ t. refl) (λ p. refl)
     (both (both (both (both (both pid-code (array byte-code processes)) (array byte-code processes)) queues-code) (le-code 4)) (le-code 4))
 
 mail-code : Code mail mailLong FitsMail
 mail-code =
-    through (λ (m : Mail). ((((m .boxes, m .hand), m .full), m .length), m .free))
-    (λ t. record { boxes = t .0 .0 .0 .0; hand = t .0 .0 .0 .1; full = t .0 .0 .1; length = t .0 .1; free = t .1 }) (λ t. refl) (λ m. refl)
+    through (λ (m : Mail). ((((m .boxes, m .hand), m .full .0), m .length), m .free .0))
+    (λ t. record { boxes = t .0 .0 .0 .0; hand = t .0 .0 .0 .1; full = record { 0 = t .0 .0 .1 }; length = t .0 .1; free = record { 0 = t .1 } }) (λ t. refl) (λ m. refl)
     (both (both (both (both boxes-code (array bid-code processes)) (le-code 4)) (array (le-code 2) buffers)) (le-code 4))
 
 kernel-code : Code image size FitsKernel

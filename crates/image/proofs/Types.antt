@@ -45,12 +45,12 @@ sized k vs p =
       next = pids nodes (k .procs .queues .next) _ (queues .0);
       prev = pids nodes (k .procs .queues .prev) _ (queues .1 .0);
       ready = procs .1 .1 .1 .1 .0 .1;
-      unused = procs .1 .1 .1 .1 .1 .0 .1;
+      unused = procs .1 .1 .1 .1 .1 .0 .1 .1 .0 .1;
       box-next = bids boxNodes (k .mail .boxes .next) _ (boxes .0);
       box-prev = bids boxNodes (k .mail .boxes .prev) _ (boxes .1 .0);
       hand = bids processes (k .mail .hand) _ (mail .1 .0);
-      full = mail .1 .1 .0 .1;
+      full = mail .1 .1 .0 .1 .1 .0 .1;
       lengths = pairs buffers (k .mail .length) _ (mail .1 .1 .1 .0);
-      free = mail .1 .1 .1 .1 .0 .1;
+      free = mail .1 .1 .1 .1 .0 .1 .1 .0 .1;
       count = pairs semaphores (k .count) _ (fields .1 .1 .0);
     }

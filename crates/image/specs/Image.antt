@@ -48,13 +48,13 @@ abbrev pub queues : Queues → List ℕ
 queues q = each pid (q .next) ++ each pid (q .prev)
 
 abbrev pub procs : Procs → List ℕ
-procs p = pid (p .running) ++ each byte (p .class) ++ each byte (p .ticks) ++ queues (p .queues) ++ le 4 (p .ready) ++ le 4 (p .unused)
+procs p = pid (p .running) ++ each byte (p .class) ++ each byte (p .ticks) ++ queues (p .queues) ++ le 4 (p .ready) ++ le 4 (p .unused .0)
 
 abbrev pub boxes : Boxes → List ℕ
 boxes b = each bid (b .next) ++ each bid (b .prev)
 
 abbrev pub mail : Mail → List ℕ
-mail m = boxes (m .boxes) ++ each bid (m .hand) ++ le 4 (m .full) ++ each (le 2) (m .length) ++ le 4 (m .free)
+mail m = boxes (m .boxes) ++ each bid (m .hand) ++ le 4 (m .full .0) ++ each (le 2) (m .length) ++ le 4 (m .free .0)
 
 unfoldable pub image : Kernel → List ℕ
 image k = procs (k .procs) ++ mail (k .mail) ++ each (le 2) (k .count)
@@ -80,13 +80,13 @@ pub record Sized (k : Kernel) : Type 0 where
   pub next : Array nodes (λ p. U8 (p .0)) (k .procs .queues .next)
   pub prev : Array nodes (λ p. U8 (p .0)) (k .procs .queues .prev)
   pub ready : U32 (k .procs .ready)
-  pub unused : U32 (k .procs .unused)
+  pub unused : U32 (k .procs .unused .0)
   pub box-next : Array boxNodes (λ b. U8 (b .0)) (k .mail .boxes .next)
   pub box-prev : Array boxNodes (λ b. U8 (b .0)) (k .mail .boxes .prev)
   pub hand : Array processes (λ b. U8 (b .0)) (k .mail .hand)
-  pub full : U32 (k .mail .full)
+  pub full : U32 (k .mail .full .0)
   pub lengths : Array buffers U16 (k .mail .length)
-  pub free : U32 (k .mail .free)
+  pub free : U32 (k .mail .free .0)
   pub count : Array semaphores U16 (k .count)
 
 -- every field is zero
@@ -98,14 +98,14 @@ blank = record {
     ticks = replicate processes 0;
     queues = record { next = replicate nodes (record { 0 = 0 }); prev = replicate nodes (record { 0 = 0 }) };
     ready = 0;
-    unused = 0;
+    unused = record { 0 = 0 };
   };
   mail = record {
     boxes = record { next = replicate boxNodes (record { 0 = 0 }); prev = replicate boxNodes (record { 0 = 0 }) };
     hand = replicate processes (record { 0 = 0 });
-    full = 0;
+    full = record { 0 = 0 };
     length = replicate buffers 0;
-    free = 0;
+    free = record { 0 = 0 };
   };
   count = replicate semaphores 0;
 }

@@ -15,8 +15,10 @@ use mail::Mail;
 use procs::Procs;
 use queues::Queues;
 use sizes::Bid;
+use sizes::Bids;
 use sizes::PROCESSES;
 use sizes::Pid;
+use sizes::Pids;
 
 pub fn byte(area: &[u8], at: usize) -> u8
     ensures { λ r. ⌜ Got at 1 (byte r) (now (area .entry)) ⌝ }
@@ -132,7 +134,7 @@ pub fn procs(area: &[u8]) -> Procs
     let prev = links(area, layout::PREV);
     let queues = Queues { next, prev };
     let ready = word(area, layout::READY);
-    let unused = word(area, layout::UNUSED);
+    let unused = Pids(word(area, layout::UNUSED));
     Procs {
         running,
         class,
@@ -150,10 +152,10 @@ pub fn mail(area: &[u8]) -> Mail
     let prev = box_links(area, layout::BOX_PREV);
     let boxes = Boxes { next, prev };
     let hand = hands(area, layout::HAND);
-    let full = word(area, layout::FULL);
+    let full = Pids(word(area, layout::FULL));
     let mut length = [0u16; sizes::BUFFERS];
     halfwords(area, layout::LENGTH, &mut length);
-    let free = word(area, layout::FREE);
+    let free = Bids(word(area, layout::FREE));
     Mail {
         boxes,
         hand,

@@ -9,8 +9,10 @@ use procs::Procs;
 use queues::Queues;
 use sizes::BUFFERS;
 use sizes::Bid;
+use sizes::Bids;
 use sizes::PROCESSES;
 use sizes::Pid;
+use sizes::Pids;
 use sizes::SEMAPHORES;
 
 mod get;
@@ -62,7 +64,7 @@ fn blank() -> Kernel
         ticks: row,
         queues,
         ready: 0,
-        unused: 0,
+        unused: Pids(0),
     };
     let box_links = [Bid(0); layout::BOX_NODES];
     let boxes = Boxes {
@@ -74,9 +76,9 @@ fn blank() -> Kernel
     let mail = Mail {
         boxes,
         hand,
-        full: 0,
+        full: Pids(0),
         length,
-        free: 0,
+        free: Bids(0),
     };
     let count = [0u16; SEMAPHORES];
     Kernel { procs, mail, count }

@@ -119,7 +119,7 @@ pub fn procs(area: &mut [u8], p: Procs)
     let prev = q.prev;
     links(area, layout::PREV, prev);
     word(area, layout::READY, p.ready);
-    word(area, layout::UNUSED, p.unused);
+    word(area, layout::UNUSED, p.unused.0);
 }
 
 pub fn mail(area: &mut [u8], m: Mail)
@@ -132,8 +132,8 @@ pub fn mail(area: &mut [u8], m: Mail)
     box_links(area, layout::BOX_PREV, prev);
     let hand = m.hand;
     hands(area, layout::HAND, hand);
-    word(area, layout::FULL, m.full);
+    word(area, layout::FULL, m.full.0);
     let length = m.length;
     halfwords(area, layout::LENGTH, &length);
-    word(area, layout::FREE, m.free);
+    word(area, layout::FREE, m.free.0);
 }

@@ -30,9 +30,9 @@ abbrev pub mailOf : (ℕ → List Message) → (ℕ → Option Message) → Tabl
 mailOf box hand t = record {
   boxes = record { next = map bid (t .next); prev = map bid (t .prev) };
   hand = map bid (values processes (λ p. bufferIn (hand p)));
-  full = word width (isFull hand);
+  full = record { 0 = word width (isFull hand) };
   length = values buffers (lengthIn (messages box hand));
-  free = word width (isFree box hand);
+  free = record { 0 = word width (isFree box hand) };
 }
 
 module _ (box : ℕ → List Message) (hand : ℕ → Option Message) (M : Sound.Mail box hand) where

@@ -31,7 +31,7 @@ procsOf s t = record {
   ticks = values processes (s .ticks);
   queues = record { next = map pid (t .next); prev = map pid (t .prev) };
   ready = word width (isReady (s .queue));
-  unused = word width (isUnused s);
+  unused = record { 0 = word width (isUnused s) };
 }
 
 module _ (s : Plain.Procs) {n : ℕ} (S : Seated n s) where

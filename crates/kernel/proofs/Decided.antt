@@ -54,14 +54,14 @@ module _ (k : Kernel) where
     holding-is m h = ap (λ (x : ℕ). ltb x buffers) (sym (front-is m h)) ∙ front-holds m (box m) refl
 
   abbrev All : List ℕ → Type 0
-  All at = AllFit at (k .procs .running .0) (k .mail .full) (map num (k .mail .boxes .next)) (k .count)
+  All at = AllFit at (k .procs .running .0) (k .mail .full .0) (map num (k .mail .boxes .next)) (k .count)
 
   module _ {at : List ℕ} {r : State.Procs} (P : Seats.Placed slice (Stands.numbers (k .procs)) r) (A : Stand (r .queue) at) where
     runs : (s : State.Procs) → Stands.Stands (Stands.numbers (k .procs)) s → k .procs .running .0 ≡ s .running
     unfolding Stands.numbers
     runs s S = S .running
 
-    full-is : {box : ℕ → List Message} {hand : ℕ → Option Message} → Carries.Carries (Carries.numbers (k .mail)) box hand → k .mail .full ≡ Carries.numbers (k .mail) .full
+    full-is : {box : ℕ → List Message} {hand : ℕ → Option Message} → Carries.Carries (Carries.numbers (k .mail)) box hand → k .mail .full .0 ≡ Carries.numbers (k .mail) .full
     unfolding Carries.numbers
     full-is C = refl
 
@@ -70,9 +70,9 @@ module _ (k : Kernel) where
         let is = full-is (H .mail) ∙ H .mail .full in
         let stands : Stand (s .procs .queue) at = subst (λ (f : ℕ → List ℕ). Stand f at) (one-reading (P .keeps .stands .queues) (H .procs .stands .queues)) A in
         record {
-          null = empty-bit s at (k .mail .full) (isHolding (map num (k .mail .boxes .next))) is (holding-is (H .mail)) stands 0 (omega arith) (S .hands .null);
+          null = empty-bit s at (k .mail .full .0) (isHolding (map num (k .mail .boxes .next))) is (holding-is (H .mail)) stands 0 (omega arith) (S .hands .null);
           others = λ p h h′. rw (runs (s .procs) (H .procs .stands), fun-ext (H .counts .each))
-              (fits s at (k .mail .full) (isHolding (map num (k .mail .boxes .next))) is (holding-is (H .mail)) stands S p h h′);
+              (fits s at (k .mail .full .0) (isHolding (map num (k .mail .boxes .next))) is (holding-is (H .mail)) stands S p h h′);
         }
 
     sound : {box : ℕ → List Message} {hand : ℕ → Option Message} → Stock.Stocked (Carries.numbers (k .mail)) box hand → length (k .count) ≡ semaphores → ((i : ℕ) → getD (k .count) i 0 ≤ 65535) → All at → IsSound k
@@ -80,7 +80,7 @@ module _ (k : Kernel) where
         let s : State = record { procs = r; box = box; hand = hand; count = λ i. getD (k .count) i 0; settings = State.fresh .settings } in (
           s,
           record { procs = P .keeps; mail = Q .carries; counts = record { long = long; each = λ i. refl }; settings = refl },
-          whole s at (k .mail .full) (isHolding (map num (k .mail .boxes .next))) (full-is (Q .carries) ∙ Q .carries .full) (holding-is (Q .carries)) A (record { three-ticks = refl }) (P .seated) (P .highest) (Q .mail)
+          whole s at (k .mail .full .0) (isHolding (map num (k .mail .boxes .next))) (full-is (Q .carries) ∙ Q .carries .full) (holding-is (Q .carries)) A (record { three-ticks = refl }) (P .seated) (P .highest) (Q .mail)
               (Q .carries .no-more-hands) (λ i. omega (arith, low i, top)) (λ i h. List·getD-eq-default (k .count) 0 (omega arith)) (F .null)
               (λ p h h′. rw (sym (runs r (P .keeps .stands))) (F .others p h h′)),
         )

@@ -21,7 +21,7 @@ use Rattle.kernel.specs.declared.Kernel.{Kernel}
 -- the facts f are those of k
 pub record Gathered (k : Kernel) (f : Facts) : Type 0 where
   pub sound : Says (f .sound) (IsSound k)
-  pub runs : (s : State) → Holds k s → f .runner ≡ s .procs .running
+  pub runner : f .runner .0 ≡ k .procs .running .0
 
 -- the verdict v on a call with the refusals rs, in state k
 pub data Judged (rs : State → List Refusal) (k : Kernel) (v : Verdict) : Type 0 where

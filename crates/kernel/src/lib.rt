@@ -5,7 +5,6 @@ ghost use Rattle.kernel.specs.Holds.{Holds};
 ghost use Rattle.kernel.specs.Judged.{Gathered, answered, refusedWith};
 use mail::Mail;
 use procs::Procs;
-use sizes::Pid;
 use verdicts::Facts;
 use verdicts::Verdict;
 
@@ -48,17 +47,11 @@ impl Kernel {
     }
 
     // The process that runs.
-    fn caller(self) -> Pid
-        ensures { λ r. ⌜ r .0 ≡ self .procs .running .0 ⌝ }
-    {
-        let k = self.procs;
-        k.running
-    }
-
     fn runner(self) -> u32
         ensures { λ r. ⌜ r ≡ self .procs .running .0 ⌝ }
     {
-        self.caller().0 as u32
+        let k = self.procs;
+        k.running.0 as u32
     }
 
     // The state with a code, a number and the process that runs.
@@ -118,7 +111,8 @@ impl Kernel {
         ensures { λ r. ⌜ Gathered self r ⌝ }
     {
         let sound = self.is_sound();
-        let runner = self.runner();
+        let k = self.procs;
+        let runner = k.running;
         Facts { sound, runner }
     }
 }

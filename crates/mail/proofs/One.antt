@@ -68,7 +68,7 @@ unfolding numbers
 numbers-known k k′ e =
     let boxes = one-boxes (k .boxes) (k′ .boxes) (ap (λ (n : Numbers). n .tables) e) in
     let hands = known num bid-known (k .hand) (k′ .hand) (ap (λ (n : Numbers). n .hand) e) in
-    λ i. record { boxes = boxes i; hand = hands i; full = e i .full; length = e i .length; free = e i .free }
+    λ i. record { boxes = boxes i; hand = hands i; full = record { 0 = e i .full }; length = e i .length; free = record { 0 = e i .free } }
 
 pub one-struct : (k k′ : Mail) {box : ℕ → List Message} {hand : ℕ → Option Message} → Carries (numbers k) box hand → Carries (numbers k′) box hand → k ≡ k′
 one-struct k k′ K K′ = numbers-known k k′ (one-mail K K′)

@@ -23,7 +23,7 @@ pub record Numbers : Type 0 where
   pub free : ℕ
 
 unfoldable pub numbers : Mail → Numbers
-numbers k = record { tables = tablesOf (k .boxes); hand = map num (k .hand); full = k .full; length = k .length; free = k .free }
+numbers k = record { tables = tablesOf (k .boxes); hand = map num (k .hand); full = k .full .0; length = k .length; free = k .free .0 }
 
 -- the buffer in a hand; 0 in an empty one
 abbrev pub bufferIn : Option Message → ℕ

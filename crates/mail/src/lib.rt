@@ -8,7 +8,9 @@ ghost use Rattle.mail.specs.Carries.{numbers};
 ghost use Rattle.mail.specs.Moves.{lowestFree, isFullBox, isEmptyBox, hasMessage, handAt, lengthInHand, firstLength, freshMail, filled, freed, given, emptied, queuedLast, handedOver, delivered, fetched, letGo};
 use boxes::Boxes;
 use sizes::Bid;
+use sizes::Bids;
 use sizes::Pid;
+use sizes::Pids;
 
 const PROCESSES: u8 = sizes::PROCESSES as u8;
 
@@ -22,9 +24,9 @@ const ALL: u32 = 4294967295;
 pub struct Mail {
     pub boxes: Boxes,
     pub hand: [Bid; sizes::PROCESSES],
-    pub full: u32,
+    pub full: Pids,
     pub length: [u16; sizes::BUFFERS],
-    pub free: u32,
+    pub free: Bids,
 }
 
 // The buffer in the hand of p, or 0 past the last hand.
@@ -84,9 +86,9 @@ impl Mail {
         Mail {
             boxes,
             hand,
-            full: 0,
+            full: Pids(0),
             length,
-            free: ALL,
+            free: Bids(ALL),
         }
     }
 
@@ -94,7 +96,7 @@ impl Mail {
     pub fn lowest_free(self) -> u32
         ensures { λ r. ⌜ r ≡ lowestFree (numbers self) ⌝ }
     {
-        bits::lowest_bit(self.free)
+        bits::lowest_bit(self.free.0)
     }
 
     pub fn is_full_box(self, m: u32) -> bool
@@ -115,7 +117,7 @@ impl Mail {
     pub fn has_message(self, p: Pid) -> bool
         ensures { λ r. ⌜ r ≡ hasMessage (numbers self) (p .0) ⌝ }
     {
-        bits::has_bit(self.full, p.0 as u32)
+        bits::has_bit(self.full.0, p.0 as u32)
     }
 
     // The buffer in the hand of p, or 0 where the hand is empty.
@@ -155,7 +157,8 @@ impl Mail {
         let old = self.length;
         let lengths = with_length(old, b, n);
         self.length = lengths;
-        self.free = bits::without_bit(self.free, b.0 as u32);
+        let free = Bids(bits::without_bit(self.free.0, b.0 as u32));
+        self.free = free;
         self
     }
 
@@ -166,7 +169,8 @@ impl Mail {
         let old = self.length;
         let lengths = with_length(old, b, 0);
         self.length = lengths;
-        self.free = bits::with_bit(self.free, b.0 as u32);
+        let free = Bids(bits::with_bit(self.free.0, b.0 as u32));
+        self.free = free;
         self
     }
 
@@ -177,7 +181,8 @@ impl Mail {
         let old = self.hand;
         let hands = with_hand(old, p, b);
         self.hand = hands;
-        self.full = bits::with_bit(self.full, p.0 as u32);
+        let full = Pids(bits::with_bit(self.full.0, p.0 as u32));
+        self.full = full;
         self
     }
 
@@ -188,7 +193,8 @@ impl Mail {
         let old = self.hand;
         let hands = with_hand(old, p, Bid(0));
         self.hand = hands;
-        self.full = bits::without_bit(self.full, p.0 as u32);
+        let full = Pids(bits::without_bit(self.full.0, p.0 as u32));
+        self.full = full;
         self
     }
 

@@ -9,6 +9,7 @@ ghost use Rattle.procs.specs.Stands.{numbers};
 ghost use Rattle.procs.specs.Moves.{unusedAt, lowestUnused, firstOf, fresh, runs, ranked, timed, marked, requeued, joined, fronted, gone, firstRuns, chosen, stoodDown, isAbove, preempted, readied, created, woken, wentTo, yielded, regraded, ticked, removed, halted};
 use queues::Queues;
 use sizes::Pid;
+use sizes::Pids;
 
 const PROCESSES: u8 = sizes::PROCESSES as u8;
 
@@ -22,7 +23,7 @@ pub struct Procs {
     pub ticks: [u8; sizes::PROCESSES],
     pub queues: Queues,
     pub ready: u32,
-    pub unused: u32,
+    pub unused: Pids,
 }
 
 // What a table, of classes or of ticks, has for p; 0 where p is no process.
@@ -60,7 +61,7 @@ impl Procs {
             ticks: zeros,
             queues: empty,
             ready: 0,
-            unused: ALL_BUT_0,
+            unused: Pids(ALL_BUT_0),
         }
     }
 
@@ -68,14 +69,14 @@ impl Procs {
     pub fn is_unused(self, p: u32) -> bool
         ensures { λ r. ⌜ r ≡ unusedAt (numbers self) p ⌝ }
     {
-        bits::has_bit(self.unused, p)
+        bits::has_bit(self.unused.0, p)
     }
 
     // The number that the next process gets, or 32 where none is unused.
     pub fn lowest_unused(self) -> u32
         ensures { λ r. ⌜ r ≡ lowestUnused (numbers self) ⌝ }
     {
-        bits::lowest_bit(self.unused)
+        bits::lowest_bit(self.unused.0)
     }
 
     // The first of queue q; where it is empty, a number that is no process.
@@ -115,7 +116,8 @@ impl Procs {
     fn claim(mut self, p: Pid) -> Procs
         ensures { λ r. ⌜ numbers r ≡ marked (p .0) false (numbers self) ⌝ }
     {
-        self.unused = bits::without_bit(self.unused, p.0 as u32);
+        let unused = Pids(bits::without_bit(self.unused.0, p.0 as u32));
+        self.unused = unused;
         self
     }
 
@@ -123,7 +125,8 @@ impl Procs {
     fn give_back(mut self, p: Pid) -> Procs
         ensures { λ r. ⌜ numbers r ≡ marked (p .0) true (numbers self) ⌝ }
     {
-        self.unused = bits::with_bit(self.unused, p.0 as u32);
+        let unused = Pids(bits::with_bit(self.unused.0, p.0 as u32));
+        self.unused = unused;
         self
     }
 

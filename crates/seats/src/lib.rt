@@ -17,6 +17,7 @@ use queues::bytes_of;
 use rings::Places;
 use sizes::PROCESSES;
 use sizes::Pid;
+use sizes::Pids;
 
 const CLASSES: u8 = sizes::CLASSES as u8;
 
@@ -90,10 +91,10 @@ fn seat_fits(at: u8, runs: bool, class: u8, ticks: u8, unused: bool, slice: u8) 
 fn other_runner(running: u8) -> u8
     ensures { λ r. ⌜ r ≡ otherRunner running ⌝ }
 {
-    if running == 0 {
-        return NOBODY;
+    if running != 0 {
+        return running;
     }
-    running
+    NOBODY
 }
 
 // Whether every process has its seat; 0, whether it runs or not, has that of an unused one. All are asked, with no early exit: so compiled,
@@ -103,15 +104,15 @@ fn seats_fit(
     at: [u8; PROCESSES],
     class: [u8; PROCESSES],
     ticks: [u8; PROCESSES],
-    unused: u32,
+    unused: Pids,
     slice: u8,
 ) -> bool
-    ensures { λ r. ⌜ Says r (AllSeats slice running at class ticks unused) ⌝ }
+    ensures { λ r. ⌜ Says r (AllSeats slice running at class ticks (unused .0)) ⌝ }
 {
-    if bits::has_bit(unused, 0) {
+    if bits::has_bit(unused.0, 0) {
         return false;
     }
-    let vacant = bits::with_bit(unused, 0);
+    let vacant = bits::with_bit(unused.0, 0);
     let runner = other_runner(running);
     let mut all = true;
     let mut p = 0;

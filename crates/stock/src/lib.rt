@@ -7,7 +7,9 @@ use mail::Mail;
 use rings::Places;
 use sizes::BUFFERS;
 use sizes::Bid;
+use sizes::Bids;
 use sizes::PROCESSES;
+use sizes::Pids;
 ghost use mathlib.Core.Path.{_≡_};
 ghost use mathlib.Core.List.{map};
 ghost use lib.ListN.{length};
@@ -76,14 +78,14 @@ fn grasp(at: &mut [u8; BUFFERS], full: bool, b: Bid) -> bool
 }
 
 // Each hand in turn gets its buffer; at first only the queued ones have a place.
-fn handed(at: [u8; BUFFERS], hand: [Bid; PROCESSES], full: u32) -> Places
-    ensures { λ r. ⌜ Handed at (map num hand) full (r .ok) (r .at) ⌝ }
+fn handed(at: [u8; BUFFERS], hand: [Bid; PROCESSES], full: Pids) -> Places
+    ensures { λ r. ⌜ Handed at (map num hand) (full .0) (r .ok) (r .at) ⌝ }
 {
     let mut s = at;
     let mut p = 0;
     while p < PROCESSES {
         let b = hand[p];
-        if !grasp(&mut s, has_bit(full, p as u32), b) {
+        if !grasp(&mut s, has_bit(full.0, p as u32), b) {
             return Places { ok: false, at: s };
         }
         p += 1;
@@ -108,13 +110,13 @@ fn buffer_fits(place: u8, length: u16, free: bool) -> bool
 }
 
 // Whether every buffer does. All are asked, with no early exit: so compiled, several at once.
-fn buffers_fit(at: [u8; BUFFERS], length: [u16; BUFFERS], free: u32) -> bool
-    ensures { λ r. ⌜ Says r (AllBuffers at length free) ⌝ }
+fn buffers_fit(at: [u8; BUFFERS], length: [u16; BUFFERS], free: Bids) -> bool
+    ensures { λ r. ⌜ Says r (AllBuffers at length (free .0)) ⌝ }
 {
     let mut all = true;
     let mut b = 0;
     while b < BUFFERS {
-        all = all & buffer_fits(at[b], length[b], has_bit(free, b as u32));
+        all = all & buffer_fits(at[b], length[b], has_bit(free.0, b as u32));
         b += 1;
     }
     all

@@ -7,6 +7,7 @@ ghost use Rattle.plain.specs.Calls.{on, noClass, noMailbox, noSemaphore};
 ghost use Rattle.plain.specs.Listing.{fewRows};
 ghost use Rattle.plain.specs.Sizes.{processes, buffers, longest, highestCount, storeSize};
 ghost use Rattle.verdicts.specs.Chain.{orElse, found};
+use sizes::Pid;
 
 const PROCESSES: u32 = sizes::PROCESSES as u32;
 
@@ -29,7 +30,7 @@ pub struct Verdict {
 // What the kernel reads off its state before it judges any call. What only some calls ask for they are given beside it.
 pub struct Facts {
     pub sound: bool,
-    pub runner: u32,
+    pub runner: Pid,
 }
 
 impl Verdict {
@@ -72,9 +73,9 @@ pub fn on_tick(f: Facts) -> Verdict
 
 // Calls that are refused only while 0 runs.
 pub fn on_idle(f: Facts) -> Verdict
-    ensures { λ r. ⌜ r ≡ found (on 14 (not (f .sound)) ∷ on 5 (eqb (f .runner) 0) ∷ []) ⌝ }
+    ensures { λ r. ⌜ r ≡ found (on 14 (not (f .sound)) ∷ on 5 (eqb (f .runner .0) 0) ∷ []) ⌝ }
 {
-    on_tick(f).or(f.runner == 0, 5)
+    on_tick(f).or(f.runner.0 == 0, 5)
 }
 
 pub fn on_create(f: Facts, class: u32, unused: u32) -> Verdict
@@ -92,7 +93,7 @@ pub fn on_stop(f: Facts, p: u32, unused: bool) -> Verdict
 }
 
 pub fn on_class(f: Facts, class: u32) -> Verdict
-    ensures { λ r. ⌜ r ≡ found (on 14 (not (f .sound)) ∷ on 5 (eqb (f .runner) 0) ∷ noClass class ∷ []) ⌝ }
+    ensures { λ r. ⌜ r ≡ found (on 14 (not (f .sound)) ∷ on 5 (eqb (f .runner .0) 0) ∷ noClass class ∷ []) ⌝ }
 {
     on_idle(f).or(CLASSES <= class, 2)
 }
@@ -109,23 +110,23 @@ pub fn on_send(f: Facts, held: usize, m: u32, n: usize, full: bool, free: u32) -
 }
 
 pub fn on_receive(f: Facts, m: u32, hand: bool) -> Verdict
-    ensures { λ r. ⌜ r ≡ found (on 14 (not (f .sound)) ∷ on 5 (eqb (f .runner) 0) ∷ noMailbox m ∷ on 7 hand ∷ []) ⌝ }
+    ensures { λ r. ⌜ r ≡ found (on 14 (not (f .sound)) ∷ on 5 (eqb (f .runner .0) 0) ∷ noMailbox m ∷ on 7 hand ∷ []) ⌝ }
 {
     on_idle(f).or(MAILBOXES <= m, 3).or(hand, 7)
 }
 
 pub fn on_release(f: Facts, hand: bool) -> Verdict
-    ensures { λ r. ⌜ r ≡ found (on 14 (not (f .sound)) ∷ on 5 (eqb (f .runner) 0) ∷ on 8 (not hand) ∷ []) ⌝ }
+    ensures { λ r. ⌜ r ≡ found (on 14 (not (f .sound)) ∷ on 5 (eqb (f .runner .0) 0) ∷ on 8 (not hand) ∷ []) ⌝ }
 {
     on_idle(f).or(!hand, 8)
 }
 
 pub fn on_read(f: Facts, held: usize, room: usize, hand: bool, length: u32) -> Verdict
-    ensures { λ r. ⌜ r ≡ found (on 14 (not (f .sound)) ∷ on 15 (not (eqb held storeSize)) ∷ on 5 (eqb (f .runner) 0) ∷ on 8 (not hand) ∷ record { code = 9; number = length; holds = ltb room length } ∷ []) ⌝ }
+    ensures { λ r. ⌜ r ≡ found (on 14 (not (f .sound)) ∷ on 15 (not (eqb held storeSize)) ∷ on 5 (eqb (f .runner .0) 0) ∷ on 8 (not hand) ∷ record { code = 9; number = length; holds = ltb room length } ∷ []) ⌝ }
 {
     on_tick(f)
         .or(held != sizes::STORE_SIZE, 15)
-        .or(f.runner == 0, 5)
+        .or(f.runner.0 == 0, 5)
         .or(!hand, 8)
         .or_with(room < length as usize, 9, length)
 }
@@ -139,7 +140,7 @@ pub fn on_signal(f: Facts, i: u32, count: u32) -> Verdict
 }
 
 pub fn on_wait(f: Facts, i: u32) -> Verdict
-    ensures { λ r. ⌜ r ≡ found (on 14 (not (f .sound)) ∷ on 5 (eqb (f .runner) 0) ∷ noSemaphore i ∷ []) ⌝ }
+    ensures { λ r. ⌜ r ≡ found (on 14 (not (f .sound)) ∷ on 5 (eqb (f .runner .0) 0) ∷ noSemaphore i ∷ []) ⌝ }
 {
     on_idle(f).or(SEMAPHORES <= i, 4)
 }

@@ -7,6 +7,7 @@ ghost use Rattle.rings.specs.Walk.{Says};
 ghost use Rattle.waits.specs.Waits.{HandFits, LyingFits, WaitFits, AllFit, isHolding};
 use sizes::Bid;
 use sizes::Pid;
+use sizes::Pids;
 
 const PROCESSES: u32 = sizes::PROCESSES as u32;
 
@@ -82,13 +83,13 @@ fn wait_fits(
 pub fn all_fit(
     at: [u8; sizes::PROCESSES],
     running: Pid,
-    full: u32,
+    full: Pids,
     next: [Bid; NODES],
     count: [u16; sizes::SEMAPHORES],
 ) -> bool
-    ensures { λ r. ⌜ Says r (AllFit at (running .0) full (map num next) count) ⌝ }
+    ensures { λ r. ⌜ Says r (AllFit at (running .0) (full .0) (map num next) count) ⌝ }
 {
-    if bits::has_bit(full, 0) {
+    if bits::has_bit(full.0, 0) {
         return false;
     }
     let links = boxes::bytes_of(next);
@@ -99,7 +100,7 @@ pub fn all_fit(
         if !wait_fits(
             place,
             p == running.0 as u32,
-            bits::has_bit(full, p),
+            bits::has_bit(full.0, p),
             &links,
             &count,
         ) {

@@ -17,11 +17,11 @@ use Rattle.seats.proofs.seats_fit.Statement.{statement}
 use Rattle.seats.proofs.seats_fit.Tie as tie
 
 abbrev Inv-loop : tie.InvT-loop
-Inv-loop running unused slice at class ticks vacant runner all₀ p₀ all p =
+Inv-loop running slice at class ticks vacant runner all₀ p₀ all p =
     (p ≤ processes) × Says all ((i : ℕ) → i < p → Seat slice (getD at i 0) (eqb runner i) (getD class i 0) (getD ticks i 0) (bits vacant i))
 
 abbrev μ-loop : tie.MeasureT-loop
-μ-loop running unused slice at class ticks vacant runner all₀ p₀ all p = processes - p
+μ-loop running slice at class ticks vacant runner all₀ p₀ all p = processes - p
 
 returns : tie.Need-returns Inv-loop μ-loop
 returns c = λ s. true≢false (sym (c .if1 .taken) ∙ c .before .has-bit .ensures ∙ s .null-used)
@@ -47,8 +47,8 @@ returns-2 c =
     let x = z .before .before .before .before .args in
     let off = sym (z .before .before .before .has-bit .ensures) ∙ z .before .before .if1 .left in
     says-as _ (l .all)
-    (λ s. all-seats (x .slice) (x .running) (x .t2) (x .t3) (x .t4) (x .unused) off (λ i h. rw (z .other-runner .ensures, z .before .with-bit .ensures) at (s i (omega arith))))
-    (λ s i h. rw (z .other-runner .ensures, z .before .with-bit .ensures) (each-seat (x .slice) (x .running) (x .t2) (x .t3) (x .t4) (x .unused) s i (omega arith)))
+    (λ s. all-seats (x .slice) (x .running) (x .t2) (x .t3) (x .t4) (x .unused .0) off (λ i h. rw (z .other-runner .ensures, z .before .with-bit .ensures) at (s i (omega arith))))
+    (λ s i h. rw (z .other-runner .ensures, z .before .with-bit .ensures) (each-seat (x .slice) (x .running) (x .t2) (x .t3) (x .t4) (x .unused .0) s i (omega arith)))
     (l .inv .1)
 
 pub seats-fit-spec : {M : Type 1} → statement M

@@ -12,7 +12,7 @@ use Rattle.stock.proofs.buffers_fit.Statement.{statement}
 use Rattle.stock.proofs.buffers_fit.Tie as tie
 
 abbrev Inv-loop : tie.InvT-loop
-Inv-loop free at length all₀ b₀ all b = (b ≤ buffers) × Says all ((i : ℕ) → i < b → BufferFits (getD at i 0) (getD length i 0) (bits free i))
+Inv-loop free at length all₀ b₀ all b = (b ≤ buffers) × Says all ((i : ℕ) → i < b → BufferFits (getD at i 0) (getD length i 0) (bits (free .0) i))
 
 abbrev μ-loop : tie.MeasureT-loop
 μ-loop free at length all₀ b₀ all b = buffers - b
@@ -49,7 +49,7 @@ loop-again c =
     let r = c .buffer-fits in
     let l = c .before .before .before .loop in
     let x = c .before .before .before .before .args in
-    let P : ℕ → Type 0 = λ i. BufferFits (getD (x .t1) i 0) (getD (x .t2) i 0) (bits (x .free) i) in
+    let P : ℕ → Type 0 = λ i. BufferFits (getD (x .t1) i 0) (getD (x .t2) i 0) (bits (x .free .0) i) in
     (omega arith, says-more P (l .b) (l .all) (r .result) (l .inv .1) (rw (c .before .has-bit .ensures) at (r .ensures)))
 
 returns : tie.Need-returns Inv-loop μ-loop

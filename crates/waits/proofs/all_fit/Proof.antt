@@ -9,7 +9,7 @@ use Rattle.waits.proofs.all_fit.Statement.{statement}
 use Rattle.waits.proofs.all_fit.Tie as tie
 
 abbrev Inv-loop : tie.InvT-loop
-Inv-loop running full at count links p₀ p = (1 ≤ p) × (p ≤ 32) × Below at (running .0) full links count p
+Inv-loop running full at count links p₀ p = (1 ≤ p) × (p ≤ 32) × Below at (running .0) (full .0) links count p
 
 abbrev μ-loop : tie.MeasureT-loop
 μ-loop running full at count links p₀ p = 32 - p
@@ -36,7 +36,7 @@ loop-again c =
     let w = c .before .wait-fits in (
       omega (arith, l .loop .inv .0),
       omega (arith, t .loop-test .taken),
-      one-more (x .t1) (x .running .0) (x .full) (l .before .bytes-of .result) (x .t5) (l .loop .p) (w .result) (c .if2 .left) (rw (c .before .before .before .before .has-bit2 .ensures) at (w .ensures)) (l .loop .inv .2),
+      one-more (x .t1) (x .running .0) (x .full .0) (l .before .bytes-of .result) (x .t5) (l .loop .p) (w .result) (c .if2 .left) (rw (c .before .before .before .before .has-bit2 .ensures) at (w .ensures)) (l .loop .inv .2),
     )
 
 returns-3 : tie.Need-returns-3 Inv-loop μ-loop

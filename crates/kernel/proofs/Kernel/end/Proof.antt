@@ -20,7 +20,7 @@ returns-2 : tie.Need-returns-2
 unfolding Plain.perform Plain.refusals
 returns-2 c = accepted-plainly Plain.end (c .before .before .before .if1 .left) (judged-end (c .before .before .before .before .before .before .facts .ensures) (c .before .before .before .before .before .on-idle .ensures)) (λ s H S x.
     let z : s .procs .running ≢ 0 = eqb-false _ _ (x .0) in
-    gives 0 0 [] _ (c .answer .ensures) (stopped-holds H S (s .procs .running) (c .before .before .caller .ensures ∙ runner-is _ s H) (omega arith) (runner-range (s .settings .slice) (s .procs) (S .seated)) (c .before .stopped .ensures)))
+    gives 0 0 [] _ (c .answer .ensures) (stopped-holds H S (s .procs .running) (c .before .before .before .before .before .before .facts .ensures .runner ∙ runner-is _ s H) (omega arith) (runner-range (s .settings .slice) (s .procs) (S .seated)) (c .before .stopped .ensures)))
 
 pub end-spec : {M : Type 1} → statement M
-end-spec = tie.close (tie.spec (λ c κs. search needs) (λ c κs. search needs) (λ c κs. search needs) returns (λ c κs. search needs) (λ c κs. search needs) (λ c κs. search needs) returns-2)
+end-spec = tie.close (tie.spec (λ c κs. search needs) (λ c κs. search needs) (λ c κs. search needs) returns (λ c κs. search needs) (λ c κs. search needs) returns-2)

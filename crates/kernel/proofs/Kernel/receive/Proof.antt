@@ -19,11 +19,11 @@ use mathlib.Core.Path.{_≡_, sym, ap, _∙_}
 use native.Mathlib.Omega.{arith}
 
 returns : tie.Need-returns
-returns c = refused-plainly (Plain.receive _) (c .before .if1 .taken) (judged-receive (c .before .before .before .before .before .before .before .facts .ensures) (c .before .before .before .before .before .before .before .before .args .m) (c .before .before .before .before .has-message .ensures ∙ ap (hasMessage _) (c .before .before .before .before .before .before .caller .ensures)) (c .before .before .before .on-receive .ensures)) (c .refuse .ensures)
+returns c = refused-plainly (Plain.receive _) (c .before .if1 .taken) (judged-receive (c .before .before .before .before .before .before .before .facts .ensures) (c .before .before .before .before .before .before .before .before .args .m) (c .before .before .before .before .has-message .ensures ∙ ap (hasMessage _) (c .before .before .before .before .before .before .before .facts .ensures .runner)) (c .before .before .before .on-receive .ensures)) (c .refuse .ensures)
 
 returns-2 : tie.Need-returns-2
 unfolding Plain.perform Plain.refusals slice
-returns-2 c = accepted-plainly (Plain.receive _) (c .before .before .before .before .before .before .if1 .left) (judged-receive (c .before .before .before .before .before .before .before .before .before .before .before .before .facts .ensures) (c .before .before .before .before .before .before .before .before .before .before .before .before .before .args .m) (c .before .before .before .before .before .before .before .before .before .has-message .ensures ∙ ap (hasMessage _) (c .before .before .before .before .before .before .before .before .before .before .before .caller .ensures)) (c .before .before .before .before .before .before .before .before .on-receive .ensures)) (λ s H S x.
+returns-2 c = accepted-plainly (Plain.receive _) (c .before .before .before .before .before .before .if1 .left) (judged-receive (c .before .before .before .before .before .before .before .before .before .before .before .before .facts .ensures) (c .before .before .before .before .before .before .before .before .before .before .before .before .before .args .m) (c .before .before .before .before .before .before .before .before .before .has-message .ensures ∙ ap (hasMessage _) (c .before .before .before .before .before .before .before .before .before .before .before .before .facts .ensures .runner)) (c .before .before .before .before .before .before .before .before .on-receive .ensures)) (λ s H S x.
     let a = c .before .before .before .before .before .before .before .before .before .before .before .before .before .args in
     let low : a .m < mailboxes = leb-false _ _ (x .1 .0) in
     let e : a .m % 16 ≡ a .m = omega (arith, low) in
@@ -33,11 +33,11 @@ returns-2 c = accepted-plainly (Plain.receive _) (c .before .before .before .bef
 
 returns-3 : tie.Need-returns-3
 unfolding Plain.perform Plain.refusals
-returns-3 c = accepted-plainly (Plain.receive _) (c .before .before .before .before .before .before .if1 .left) (judged-receive (c .before .before .before .before .before .before .before .before .before .before .before .before .facts .ensures) (c .before .before .before .before .before .before .before .before .before .before .before .before .before .args .m) (c .before .before .before .before .before .before .before .before .before .has-message .ensures ∙ ap (hasMessage _) (c .before .before .before .before .before .before .before .before .before .before .before .caller .ensures)) (c .before .before .before .before .before .before .before .before .on-receive .ensures)) (λ s H S x.
+returns-3 c = accepted-plainly (Plain.receive _) (c .before .before .before .before .before .before .if1 .left) (judged-receive (c .before .before .before .before .before .before .before .before .before .before .before .before .facts .ensures) (c .before .before .before .before .before .before .before .before .before .before .before .before .before .args .m) (c .before .before .before .before .before .before .before .before .before .has-message .ensures ∙ ap (hasMessage _) (c .before .before .before .before .before .before .before .before .before .before .before .before .facts .ensures .runner)) (c .before .before .before .before .before .before .before .before .on-receive .ensures)) (λ s H S x.
     let a = c .before .before .before .before .before .before .before .before .before .before .before .before .before .args in
     let f = first-there (s .box (a .m)) (not-false _ (sym (empty-box (H .mail) (a .m)) ∙ (sym (c .before .before .before .before .before .is-empty-box .ensures) ∙ c .before .before .before .before .if2 .left))) in
     rw (f .2) (gives 0 (length (f .0 .bytes)) [] _ (c .answer2 .ensures ∙ ap (answered _ 0) (c .before .before .before .first-length .ensures ∙ first-length (H .mail) (a .m) (f .0) (f .1) (f .2)))
-    (rw (c .before .with-mail .ensures) (mailed-holds H (rw (c .before .before .fetch .ensures, c .before .before .before .before .before .before .before .before .before .before .before .caller .ensures, runner-is _ s H) (fetched-carried H S (a .m) (f .0) (f .1) (leb-false _ _ (x .1 .0)) (f .2) (empty-hand-is (Plain.hand s) (x .1 .1 .0))))))))
+    (rw (c .before .with-mail .ensures) (mailed-holds H (rw (c .before .before .fetch .ensures, c .before .before .before .before .before .before .before .before .before .before .before .before .facts .ensures .runner, runner-is _ s H) (fetched-carried H S (a .m) (f .0) (f .1) (leb-false _ _ (x .1 .0)) (f .2) (empty-hand-is (Plain.hand s) (x .1 .1 .0))))))))
 
 pub receive-spec : {M : Type 1} → statement M
-receive-spec = tie.close (tie.spec (λ c κs. search needs) (λ c κs. search needs) (λ c κs. search needs) (λ c κs. search needs) (λ c κs. search needs) returns (λ c κs. search needs) (λ c. search needs) (λ c κs. search needs) (λ c κs. search needs) (λ c κs. search needs) returns-2 (λ c κs. search needs) (λ c κs. search needs) (λ c κs. search needs) (λ c κs. search needs) returns-3)
+receive-spec = tie.close (tie.spec (λ c κs. search needs) (λ c κs. search needs) (λ c κs. search needs) (λ c κs. search needs) returns (λ c κs. search needs) (λ c. search needs) (λ c κs. search needs) (λ c κs. search needs) (λ c κs. search needs) returns-2 (λ c κs. search needs) (λ c κs. search needs) (λ c κs. search needs) (λ c κs. search needs) returns-3)
