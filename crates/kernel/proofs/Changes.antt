@@ -13,7 +13,7 @@ use Rattle.lists.specs.Lists.{someone}
 use Rattle.rings.proofs.Looks.{first-some, first-none}
 use Rattle.plain.specs.Calls as Plain
 use Rattle.plain.specs.Runs.{makeReady, goTo}
-use Rattle.plain.specs.Sizes.{processes, classes, mailboxes, buffers, semaphores, highestCount, slice, atMailbox, atSemaphore, queues}
+use Rattle.plain.specs.Sizes.{processes, classes, mailboxes, buffers, semaphores, highestCount, atMailbox, atSemaphore, queues}
 use Rattle.plain.specs.Sound.{Sound}
 use Rattle.plain.specs.State as State
 use Rattle.plain.specs.State.{Message, Settings, State, move, line, freeBuffer}
@@ -32,16 +32,16 @@ use Rattle.mail.specs.Moves as Mail
 use Rattle.mail.specs.declared.Mail as Mail′
 use Rattle.counts.proofs.Laws.{signalled-counted, claimed-counted}
 use Rattle.counts.specs.Counts as Counts
-use Rattle.kernel.specs.Holds.{Holds}
+use Rattle.kernel.specs.Holds.{settingsOf, Holds}
 use Rattle.kernel.specs.Judged.{Made}
 use Rattle.kernel.specs.declared.Kernel.{Kernel}
 
-pub made-holds : {r : Kernel} {s : State} {p : Stands.Numbers} {m : Carries.Numbers} {c : List ℕ} → Made r p m c → Stands.Keeps p (s .procs) → Carries.Carries m (s .box) (s .hand) → Counts.Counted c (s .count) → s .settings ≡ State.fresh .settings → Holds r s
+pub made-holds : {r : Kernel} {s : State} {p : Stands.Numbers} {m : Carries.Numbers} {c : List ℕ} → Made r p m c → Stands.Keeps p (s .procs) → Carries.Carries m (s .box) (s .hand) → Counts.Counted c (s .count) → s .settings ≡ settingsOf r → Holds r s
 made-holds M P C N e = record { procs = rw (M .procs) P; mail = rw (M .mail) C; counts = rw (M .count) N; settings = e }
 
 module _ {k : Kernel} {s : State} (H : Holds k s) where
-  -- the slice that the code has built in is that of the state
-  pub slice-is : slice ≡ s .settings .slice
+  -- the slice that k has is that of the state
+  pub slice-is : settingsOf k .slice ≡ s .settings .slice
   slice-is = ap (λ (t : Settings). t .slice) (sym (H .settings))
 
   -- only the processes move
@@ -58,7 +58,7 @@ module _ {k : Kernel} {s : State} (H : Holds k s) where
     procs = Stands.numbers (k .procs)
 
     -- the caller joins the rear of queue q; choose
-    pub gone-kept : (q : ℕ) → s .procs .running ≢ 0 → classes ≤ q → q < queues → Stands.Keeps (Procs.wentTo slice q procs) (goTo (s .settings .slice) q (s .procs))
+    pub gone-kept : (q : ℕ) → s .procs .running ≢ 0 → classes ≤ q → q < queues → Stands.Keeps (Procs.wentTo (settingsOf k .slice) q procs) (goTo (s .settings .slice) q (s .procs))
     gone-kept q z h h′ = rw slice-is (went-kept (H .procs) (slice-some s S) (S .seated) (S .highest) q z h h′)
 
     -- the first of queue q, if someone waits there, is made ready
@@ -66,8 +66,8 @@ module _ {k : Kernel} {s : State} (H : Holds k s) where
     roused q [] = s .procs
     roused q (w ∷ l) = makeReady (s .settings .slice) w (line q l (s .procs))
 
-    roused-kept : (q : ℕ) (l : List ℕ) → classes ≤ q → s .procs .queue q ≡ l → Stands.Keeps (Procs.woken slice q procs) (roused q l)
-    roused-kept q [] h e = rw (woken-nobody (H .procs .stands) slice q e) (H .procs)
+    roused-kept : (q : ℕ) (l : List ℕ) → classes ≤ q → s .procs .queue q ≡ l → Stands.Keeps (Procs.woken (settingsOf k .slice) q procs) (roused q l)
+    roused-kept q [] h e = rw (woken-nobody (H .procs .stands) (settingsOf k .slice) q e) (H .procs)
     roused-kept q (w ∷ l) h e = rw slice-is (woken-kept (H .procs) (slice-some s S) (S .seated) (S .highest) q w l h e)
 
     -- p is stopped, by a number that is p's
@@ -78,7 +78,7 @@ module _ {k : Kernel} {s : State} (H : Holds k s) where
 
     -- buffer b takes message x, which the first waiter at mailbox m gets in hand, or which is queued last
     pub delivered-holds : {r : Kernel} (m b n : ℕ) (x : List ℕ) → length x ≡ n → m < mailboxes → b < buffers → b ≡ freeBuffer s
-        → Made r (Procs.woken slice (atMailbox m) procs) (Mail.delivered (Carries.numbers (k .mail)) m (Procs.firstOf procs (atMailbox m)) b n) (k .count)
+        → Made r (Procs.woken (settingsOf k .slice) (atMailbox m) procs) (Mail.delivered (Carries.numbers (k .mail)) m (Procs.firstOf procs (atMailbox m)) b n) (k .count)
         → Holds r (Plain.deliver m (record { buffer = b; bytes = x }) (s .procs .queue (atMailbox m)) s)
     delivered-holds {r} m b n x long hm hb is M = go (s .procs .queue (atMailbox m)) refl
       where
@@ -99,7 +99,7 @@ module _ {k : Kernel} {s : State} (H : Holds k s) where
 
     -- the first waiter at semaphore i is made ready, or its count goes up
     pub signalled-holds : {r : Kernel} (i : ℕ) → i < semaphores → s .count i ≢ highestCount
-        → Made r (Procs.woken slice (atSemaphore i) procs) (Carries.numbers (k .mail)) (Counts.signalled (k .count) i (ltb (Procs.firstOf procs (atSemaphore i)) processes))
+        → Made r (Procs.woken (settingsOf k .slice) (atSemaphore i) procs) (Carries.numbers (k .mail)) (Counts.signalled (k .count) i (ltb (Procs.firstOf procs (atSemaphore i)) processes))
         → Holds r (Plain.wake i (s .procs .queue (atSemaphore i)) s)
     signalled-holds {r} i h top M = go (s .procs .queue (atSemaphore i)) refl
       where

@@ -14,7 +14,7 @@ use Rattle.mail.specs.Carries as Mail
 use Rattle.verdicts.specs.Chain.{verdict, found}
 use Rattle.verdicts.specs.declared.Facts.{Facts}
 use Rattle.verdicts.specs.declared.Verdict.{Verdict}
-use Rattle.kernel.specs.Holds.{Holds, IsSound}
+use Rattle.kernel.specs.Holds.{settingsOf, Holds, IsSound}
 use Rattle.kernel.specs.declared.Done.{Done}
 use Rattle.kernel.specs.declared.Kernel.{Kernel}
 
@@ -22,6 +22,7 @@ use Rattle.kernel.specs.declared.Kernel.{Kernel}
 pub record Gathered (k : Kernel) (f : Facts) : Type 0 where
   pub sound : Says (f .sound) (IsSound k)
   pub runner : f .runner .0 ≡ k .procs .running .0
+  pub slice : f .slice ≡ settingsOf k .slice
 
 -- the verdict v on a call with the refusals rs, in state k
 pub data Judged (rs : State → List Refusal) (k : Kernel) (v : Verdict) : Type 0 where

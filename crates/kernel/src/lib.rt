@@ -113,6 +113,10 @@ impl Kernel {
         let sound = self.is_sound();
         let k = self.procs;
         let runner = k.running;
-        Facts { sound, runner }
+        Facts {
+            sound,
+            runner,
+            slice: SLICE,
+        }
     }
 }

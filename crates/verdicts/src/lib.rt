@@ -27,10 +27,12 @@ pub struct Verdict {
     pub number: u32,
 }
 
-// What the kernel reads off its state before it judges any call. What only some calls ask for they are given beside it.
+// What the kernel reads off its state before it judges any call: whether it is sound, who runs, and how many ticks a full slice has. What
+// only some calls ask for they are given beside it.
 pub struct Facts {
     pub sound: bool,
     pub runner: Pid,
+    pub slice: u8,
 }
 
 impl Verdict {

@@ -7,7 +7,6 @@ use Rattle.kernel.proofs.Kernel.create.Tie as tie
 use Rattle.kernel.proofs.Verdicts.{judged-create}
 use Rattle.kernel.specs.Judged.{answered}
 use Rattle.plain.specs.Calls as Plain
-use Rattle.plain.specs.Sizes.{slice}
 use Rattle.plain.specs.State.{freeProcess}
 use Rattle.plain_laws.proofs.Calls.{next-process}
 use Rattle.plain_laws.proofs.Frames.{slice-some}
@@ -23,7 +22,7 @@ returns : tie.Need-returns
 returns c = refused-plainly (Plain.create _) (c .before .if1 .taken) (judged-create (c .before .before .before .before .before .before .facts .ensures) (c .before .before .before .before .before .before .before .args .class) (c .before .before .before .before .lowest-unused .ensures) (c .before .before .before .on-create .ensures)) (c .refuse .ensures)
 
 returns-2 : tie.Need-returns-2
-unfolding Plain.perform Plain.refusals slice
+unfolding Plain.perform Plain.refusals
 returns-2 c = accepted-plainly (Plain.create _) (c .before .before .before .if1 .left) (judged-create (c .before .before .before .before .before .before .before .before .facts .ensures) (c .before .before .before .before .before .before .before .before .before .args .class) (c .before .before .before .before .before .before .lowest-unused .ensures) (c .before .before .before .before .before .on-create .ensures)) (λ s H S x.
     let fr = next-process (s .procs) (x .1 .0) in
     let e = c .before .before .before .before .before .before .lowest-unused .ensures ∙ lowest-unused (H .procs) in
@@ -31,7 +30,7 @@ returns-2 c = accepted-plainly (Plain.create _) (c .before .before .before .if1 
     let low = leb-false _ _ (x .0) in
     let e₂ : c .before .before .before .before .before .before .before .before .before .args .class % 256 ≡ c .before .before .before .before .before .before .before .before .before .args .class = omega (arith, low) in
     gives 0 (freeProcess (s .procs)) [] _ (c .answer .ensures ∙ ap (answered _ 0) e) (rw (c .before .with-procs .ensures)
-    (moved-holds H (rw (c .before .before .create .ensures, e₁, e₂, slice-is H) (created-kept (H .procs) (slice-some s S) (S .seated) (S .highest) (freeProcess (s .procs)) (c .before .before .before .before .before .before .before .before .before .args .class) (fr .2) (fr .0) (fr .1) low)))))
+    (moved-holds H (rw (c .before .before .create .ensures, e₁, e₂, c .before .before .before .before .before .before .before .before .facts .ensures .slice, slice-is H) (created-kept (H .procs) (slice-some s S) (S .seated) (S .highest) (freeProcess (s .procs)) (c .before .before .before .before .before .before .before .before .before .args .class) (fr .2) (fr .0) (fr .1) low)))))
 
 pub create-spec : {M : Type 1} → statement M
 create-spec = tie.close (tie.spec (λ c κs. search needs) (λ c κs. search needs) (λ c κs. search needs) (λ c κs. search needs) returns (λ c. search needs) (λ c. search needs) (λ c κs. search needs) (λ c κs. search needs) (λ c κs. search needs) returns-2)

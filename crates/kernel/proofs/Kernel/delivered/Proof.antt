@@ -1,17 +1,14 @@
 -- `kernel::Kernel::delivered` meets its contract. Assumes nothing.
 use Rattle.kernel.proofs.Kernel.delivered.Statement.{statement}
 use Rattle.kernel.proofs.Kernel.delivered.Tie as tie
-use Rattle.plain.specs.Sizes.{slice}
 use Rattle.procs.proofs.Ways.{wake-none}
 use borrow.Author.Needs.{needs}
 use mathlib.Core.Path.{refl}
 
 returns : tie.Need-returns
-unfolding slice
 returns c = rw (c .with-procs .ensures, c .before .before .before .before .with-mail .ensures) (record { procs = c .before .wake .ensures; mail = rw (c .before .before .before .before .before .deliver .ensures, c .before .before .before .before .before .before .first .ensures) refl; count = refl })
 
 returns-2 : tie.Need-returns-2
-unfolding slice
 returns-2 c = rw (c .before .before .with-mail .ensures) (record { procs = wake-none _ _ (c .before .before .before .before .first .ensures) _ (c .if1 .left); mail = rw (c .before .before .before .deliver .ensures, c .before .before .before .before .first .ensures) refl; count = refl })
 
 pub delivered-spec : {M : Type 1} → statement M

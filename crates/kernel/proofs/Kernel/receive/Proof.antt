@@ -10,7 +10,7 @@ use Rattle.kernel.specs.Judged.{answered}
 use Rattle.mail.proofs.Looks.{empty-box, first-length}
 use Rattle.mail.specs.Moves.{hasMessage}
 use Rattle.plain.specs.Calls as Plain
-use Rattle.plain.specs.Sizes.{slice, mailboxes, atMailbox}
+use Rattle.plain.specs.Sizes.{mailboxes, atMailbox}
 use borrow.Author.Needs.{needs}
 use borrow.Author.Tests.{leb-false, eqb-false, not-true, not-false}
 use lib.ListN.{length}
@@ -22,14 +22,14 @@ returns : tie.Need-returns
 returns c = refused-plainly (Plain.receive _) (c .before .if1 .taken) (judged-receive (c .before .before .before .before .before .before .before .facts .ensures) (c .before .before .before .before .before .before .before .before .args .m) (c .before .before .before .before .has-message .ensures ∙ ap (hasMessage _) (c .before .before .before .before .before .before .before .facts .ensures .runner)) (c .before .before .before .on-receive .ensures)) (c .refuse .ensures)
 
 returns-2 : tie.Need-returns-2
-unfolding Plain.perform Plain.refusals slice
+unfolding Plain.perform Plain.refusals
 returns-2 c = accepted-plainly (Plain.receive _) (c .before .before .before .before .before .before .if1 .left) (judged-receive (c .before .before .before .before .before .before .before .before .before .before .before .before .facts .ensures) (c .before .before .before .before .before .before .before .before .before .before .before .before .before .args .m) (c .before .before .before .before .before .before .before .before .before .has-message .ensures ∙ ap (hasMessage _) (c .before .before .before .before .before .before .before .before .before .before .before .before .facts .ensures .runner)) (c .before .before .before .before .before .before .before .before .on-receive .ensures)) (λ s H S x.
     let a = c .before .before .before .before .before .before .before .before .before .before .before .before .before .args in
     let low : a .m < mailboxes = leb-false _ _ (x .1 .0) in
     let e : a .m % 16 ≡ a .m = omega (arith, low) in
     let none : s .box (a .m) ≡ [] = nobody-there _ (not-true _ (sym (empty-box (H .mail) (a .m)) ∙ (sym (c .before .before .before .before .before .is-empty-box .ensures) ∙ c .before .before .before .before .if2 .taken))) in
     rw none (gives 32 0 [] _ (c .answer .ensures) (rw (c .before .with-procs .ensures)
-    (moved-holds H (rw (c .before .before .go-to .ensures, e) (gone-kept H S (atMailbox (a .m)) (eqb-false _ _ (x .0)) (omega arith) (omega (arith, low))))))))
+    (moved-holds H (rw (c .before .before .go-to .ensures, e, c .before .before .before .before .before .before .before .before .before .before .before .before .facts .ensures .slice) (gone-kept H S (atMailbox (a .m)) (eqb-false _ _ (x .0)) (omega arith) (omega (arith, low))))))))
 
 returns-3 : tie.Need-returns-3
 unfolding Plain.perform Plain.refusals

@@ -21,7 +21,7 @@ returns-2 c = accepted-plainly (Plain.signal _) (c .before .before .if1 .left) (
     let low = leb-false _ _ (x .0) in
     let e : c .before .before .before .before .before .before .before .before .args .i % 16 ≡ c .before .before .before .before .before .before .before .before .args .i = omega (arith, low) in
     let twice : c .before .before .before .before .before .before .before .before .args .i % 16 % 16 ≡ c .before .before .before .before .before .before .before .before .args .i = omega (arith, low) in
-    gives 0 0 [] _ (c .answer .ensures) (signalled-holds H S (c .before .before .before .before .before .before .before .before .args .i) low (eqb-false _ _ (x .1 .0)) (rw (twice, e) at (c .before .signalled .ensures))))
+    gives 0 0 [] _ (c .answer .ensures) (signalled-holds H S (c .before .before .before .before .before .before .before .before .args .i) low (eqb-false _ _ (x .1 .0)) (rw (twice, e, c .before .before .before .before .before .before .before .facts .ensures .slice) at (c .before .signalled .ensures))))
 
 pub signal-spec : {M : Type 1} → statement M
 signal-spec = tie.close (tie.spec (λ c κs. search needs) (λ c κs. search needs) (λ c κs. search needs) (λ c κs. search needs) returns (λ c κs. search needs) (λ c κs. search needs) returns-2)

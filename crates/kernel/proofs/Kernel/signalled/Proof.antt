@@ -2,18 +2,16 @@
 use Rattle.counts.specs.Counts.{signalled}
 use Rattle.kernel.proofs.Kernel.signalled.Statement.{statement}
 use Rattle.kernel.proofs.Kernel.signalled.Tie as tie
-use Rattle.plain.specs.Sizes.{slice}
 use Rattle.procs.proofs.Ways.{wake-none}
 use borrow.Author.Needs.{needs}
 use borrow.Author.Tests.{lt-ltb, le-ltb}
 use mathlib.Core.Path.{refl}
 
 returns : tie.Need-returns
-unfolding slice signalled
+unfolding signalled
 returns c = rw (c .with-procs .ensures) (record { procs = c .before .wake .ensures; mail = refl; count = rw (← c .before .before .before .before .first .ensures, lt-ltb _ _ (c .before .before .if1 .taken)) refl })
 
 returns-2 : tie.Need-returns-2
-unfolding slice
 returns-2 c = rw (c .with-count .ensures) (record { procs = wake-none _ _ (c .before .before .before .before .before .first .ensures) _ (c .before .before .before .if1 .left); mail = refl; count = rw (← c .before .before .before .before .before .first .ensures, le-ltb _ _ (c .before .before .before .if1 .left)) (c .before .signalled .ensures) })
 
 pub signalled-spec : {M : Type 1} → statement M
