@@ -2,7 +2,7 @@
 -- Assumes nothing.
 use mathlib.Core.Path.{_≡_, refl, sym, ap, _∙_}
 use mathlib.Core.Bool.{Bool, true, false, not}
-use mathlib.Core.List.{List, [], _∷_, _++_, append-assoc, append-nil}
+use mathlib.Core.List.{List, [], _∷_, _++_, map, append-assoc, append-nil}
 use Prim.Native.Nat.{ℕ, _+_, _-_, _<_, _≤_}
 use native.Mathlib.Omega.{arith}
 use native.Mathlib.Nat.{add-zero, zero-add}
@@ -70,6 +70,14 @@ got-two area n m e = rw e (gots (got-one area n) (got-one area (n + 1)))
 
 pub got-four : (area : List ℕ) (n : ℕ) → Got n 4 (getD area n 0 ∷ getD area (n + 1) 0 ∷ getD area (n + 2) 0 ∷ getD area (n + 3) 0 ∷ []) area
 got-four area n = gots (got-two area n (n + 1) refl) (got-two area (n + 2) (n + 3) (omega arith))
+
+-- elements that are put by their numbers
+pub put-numbers : {A : Type 0} (g : A → ℕ) (xs : List A) (ns : List ℕ) {at w : ℕ} {area after : List ℕ} → ns ≡ map g xs → length ns ≡ w → Put at (length ns) (each byte ns) area after → Put at w (each (λ x. byte (g x)) xs) area after
+put-numbers g xs ns e l p = rw (l, e, by-numbers xs) at p
+  where
+    by-numbers : (xs : List _) → each byte (map g xs) ≡ each (λ x. byte (g x)) xs
+    by-numbers [] = refl
+    by-numbers (x ∷ l) = ap (λ (t : List ℕ). g x ∷ t) (by-numbers l)
 
 -- a part that is the whole area
 pub put-whole : {n : ℕ} {x area after : List ℕ} → length area ≡ n → Put 0 n x area after → after ≡ x

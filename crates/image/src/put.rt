@@ -49,14 +49,14 @@ pub fn halfwords(area: &mut [u8], at: usize, xs: &[u16])
     }
 }
 
-pub fn bytes(area: &mut [u8], at: usize, xs: [u8; PROCESSES])
-    ensures { λ _. ⌜ Put at processes (each byte xs) (now (area .entry)) (now (area .exit)) ⌝ }
+pub fn bytes(area: &mut [u8], at: usize, xs: &[u8])
+    ensures { λ _. ⌜ Put at (length (now (xs .entry))) (each byte (now (xs .entry))) (now (area .entry)) (now (area .exit)) ⌝ }
 {
-    if !layout::has_room(area.len(), at, PROCESSES) {
+    if !layout::has_room(area.len(), at, xs.len()) {
         return;
     }
     let mut i = 0;
-    while i < PROCESSES {
+    while i < xs.len() {
         area[at + i] = xs[i];
         i += 1;
     }
@@ -65,29 +65,15 @@ pub fn bytes(area: &mut [u8], at: usize, xs: [u8; PROCESSES])
 pub fn links(area: &mut [u8], at: usize, xs: [Pid; NODES])
     ensures { λ _. ⌜ Put at nodes (each pid xs) (now (area .entry)) (now (area .exit)) ⌝ }
 {
-    if !layout::has_room(area.len(), at, NODES) {
-        return;
-    }
-    let mut i = 0;
-    while i < NODES {
-        let p = xs[i];
-        area[at + i] = p.0;
-        i += 1;
-    }
+    let numbers = queues::bytes_of(xs);
+    bytes(area, at, &numbers);
 }
 
 pub fn box_links(area: &mut [u8], at: usize, xs: [Bid; BOX_NODES])
     ensures { λ _. ⌜ Put at boxNodes (each bid xs) (now (area .entry)) (now (area .exit)) ⌝ }
 {
-    if !layout::has_room(area.len(), at, BOX_NODES) {
-        return;
-    }
-    let mut i = 0;
-    while i < BOX_NODES {
-        let b = xs[i];
-        area[at + i] = b.0;
-        i += 1;
-    }
+    let numbers = boxes::bytes_of(xs);
+    bytes(area, at, &numbers);
 }
 
 pub fn hands(area: &mut [u8], at: usize, xs: [Bid; PROCESSES])
@@ -110,9 +96,9 @@ pub fn procs(area: &mut [u8], p: Procs)
     let running = p.running;
     byte(area, layout::RUNNING, running.0);
     let class = p.class;
-    bytes(area, layout::CLASS, class);
+    bytes(area, layout::CLASS, &class);
     let ticks = p.ticks;
-    bytes(area, layout::TICKS, ticks);
+    bytes(area, layout::TICKS, &ticks);
     let q = p.queues;
     let next = q.next;
     links(area, layout::NEXT, next);
