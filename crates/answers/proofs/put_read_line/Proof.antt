@@ -13,26 +13,8 @@ use Rattle.answers.proofs.TextLaws.{text-part, read-line}
 use Rattle.answers.proofs.put_read_line.Statement.{statement}
 use Rattle.answers.proofs.put_read_line.Tie as tie
 
-before-pairs-requires : tie.Need-before-pairs-requires
-before-pairs-requires c κs = search needs
-
-numbers-requires : tie.Need-numbers-requires
-numbers-requires c κs = search needs
-
-sub-put-with-pairs : tie.Need-sub-put-with-pairs
-sub-put-with-pairs c = search needs
-
-part-put-with-pairs-start : tie.Need-part-put-with-pairs-start
-part-put-with-pairs-start c = search needs
-
 part-put-with-pairs-end : tie.Need-part-put-with-pairs-end
 part-put-with-pairs-end c = let size : length (c .before .before .before .numbers .result .bytes) ≡ textRoom = search needs in omega arith
-
-put-with-pairs-requires : tie.Need-put-with-pairs-requires
-put-with-pairs-requires c κs = search needs
-
-same-length : tie.Need-same-length
-same-length c = search needs
 
 returns : tie.Need-returns
 returns c =
@@ -47,11 +29,11 @@ pub put-read-line-spec : {M : Type 1} → statement M
 put-read-line-spec =
     tie.close
     (tie.spec
-    before-pairs-requires
-    numbers-requires
-    sub-put-with-pairs
-    part-put-with-pairs-start
+    (λ c κs. search needs)
+    (λ c κs. search needs)
+    (λ c. search needs)
+    (λ c. search needs)
     part-put-with-pairs-end
-    put-with-pairs-requires
-    same-length
+    (λ c κs. search needs)
+    (λ c. search needs)
     returns)

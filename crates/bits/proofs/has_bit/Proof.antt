@@ -8,9 +8,6 @@ use Rattle.bits.proofs.Words.{bit-tested, bits-above}
 use Rattle.bits.proofs.has_bit.Statement.{statement}
 use Rattle.bits.proofs.has_bit.Tie as tie
 
-shr-result : tie.Need-shr-result
-shr-result c = search needs
-
 returns : tie.Need-returns
 returns c = bit-tested (c .before .args .w) (c .before .args .i)
 
@@ -18,4 +15,4 @@ returns-2 : tie.Need-returns-2
 returns-2 c = sym (bits-above width (c .before .args .w) (c .before .args .i) (c .before .fits .w .fits) (omega arith))
 
 pub has-bit-spec : {M : Type 1} → statement M
-has-bit-spec = tie.close (tie.spec shr-result returns returns-2)
+has-bit-spec = tie.close (tie.spec (λ c. search needs) returns returns-2)

@@ -11,9 +11,6 @@ use Rattle.bits.proofs.highest_bit.Tie as tie
 returns : tie.Need-returns
 returns c = sym (highest-none width width (bits (c .before .args .w)) (λ i b. bits-above 0 (c .before .args .w) i (omega arith) (omega arith)))
 
-sub-result : tie.Need-sub-result
-sub-result c = search needs
-
 sub-result-2 : tie.Need-sub-result-2
 sub-result-2 c = omega (arith, leading-highest width width (c .before .args .w) (omega arith) (c .before .fits .w .fits))
 
@@ -21,4 +18,4 @@ returns-2 : tie.Need-returns-2
 returns-2 c = omega (arith, leading-highest width width (c .before .args .w) (omega arith) (c .before .fits .w .fits))
 
 pub highest-bit-spec : {M : Type 1} → statement M
-highest-bit-spec = tie.close (tie.spec returns sub-result sub-result-2 returns-2)
+highest-bit-spec = tie.close (tie.spec returns (λ c. search needs) sub-result-2 returns-2)

@@ -8,9 +8,6 @@ use Rattle.bits.proofs.Words.{bit-set, put-past}
 use Rattle.bits.proofs.with_bit.Statement.{statement}
 use Rattle.bits.proofs.with_bit.Tie as tie
 
-shl-result : tie.Need-shl-result
-shl-result c = search needs
-
 returns : tie.Need-returns
 returns c = bit-set width (c .before .args .w) (c .before .args .i) (c .before .fits .w .fits) (omega arith)
 
@@ -18,4 +15,4 @@ returns-2 : tie.Need-returns-2
 returns-2 c = put-past width (c .before .args .w) (c .before .args .i) (c .before .fits .w .fits) true (omega arith)
 
 pub with-bit-spec : {M : Type 1} → statement M
-with-bit-spec = tie.close (tie.spec shl-result returns returns-2)
+with-bit-spec = tie.close (tie.spec (λ c. search needs) returns returns-2)

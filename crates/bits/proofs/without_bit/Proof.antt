@@ -11,9 +11,6 @@ use Rattle.bits.proofs.without_bit.Tie as tie
 returns : tie.Need-returns
 returns c = put-past width (c .before .args .w) (c .before .args .i) (c .before .fits .w .fits) false (omega arith)
 
-shl-b : tie.Need-shl-b
-shl-b c = search needs
-
 sub-result : tie.Need-sub-result
 sub-result c = or-above (c .before .args .w) _
 
@@ -21,4 +18,4 @@ returns-2 : tie.Need-returns-2
 returns-2 c = bit-cleared width (c .before .args .w) (c .before .args .i) (c .before .fits .w .fits) (omega arith)
 
 pub without-bit-spec : {M : Type 1} → statement M
-without-bit-spec = tie.close (tie.spec returns shl-b sub-result returns-2)
+without-bit-spec = tie.close (tie.spec returns (λ c. search needs) sub-result returns-2)

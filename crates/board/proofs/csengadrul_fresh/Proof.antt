@@ -8,15 +8,6 @@ use Rattle.board.proofs.csengadrul_fresh.Tie as tie
 returns : tie.Need-returns
 returns c = record { whole = λ h. absurd (c .if1 .taken h); other = λ o. (refl, refl) }
 
-fresh-requires : tie.Need-fresh-requires
-fresh-requires c κs = search needs
-
-write-requires : tie.Need-write-requires
-write-requires c κs = search needs
-
-same-length : tie.Need-same-length
-same-length c = search needs
-
 returns-2 : tie.Need-returns-2
 returns-2 c =
     let size = c .before .before .before .before .before .if1 .left in
@@ -25,4 +16,4 @@ returns-2 c =
     record { whole = λ h. (record { kernel = k .result; sized = sized _ _ (k .ok); bytes = sym w; holds = k .ensures }, refl); other = λ o. absurd (o size) }
 
 pub csengadrul-fresh-spec : {M : Type 1} → statement M
-csengadrul-fresh-spec = tie.close (tie.spec returns fresh-requires write-requires same-length returns-2)
+csengadrul-fresh-spec = tie.close (tie.spec returns (λ c κs. search needs) (λ c κs. search needs) (λ c. search needs) returns-2)

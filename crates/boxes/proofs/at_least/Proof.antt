@@ -24,9 +24,6 @@ cast-if1 c = omega arith
 returns : tie.Need-returns Inv-loop μ-loop
 returns c = λ prev. says-too-many (c .if1 .taken)
 
-first-by-requires : tie.Need-first-by-requires Inv-loop μ-loop
-first-by-requires c κs = search needs
-
 loop-holds : tie.Need-loop-holds Inv-loop μ-loop
 loop-holds c = λ prev. ap (λ (x : ℕ). reaches buffers (tables (c .before .before .args .next .now) prev) x (c .before .before .args .n)) (sym (c .first-by .ensures prev .whole))
 
@@ -34,18 +31,6 @@ returns-2 : tie.Need-returns-2 Inv-loop μ-loop
 returns-2 c =
     let l = c .before in
     λ prev. says-walked (l .before .before .before .if1 .left) (l .before .loop .inv prev ∙ reaches-end _ _ _ _ (l .loop-test .taken) (c .if2 .taken))
-
-cast-i : tie.Need-cast-i Inv-loop μ-loop
-cast-i c = search needs
-
-element-copy-out-b : tie.Need-element-copy-out-b Inv-loop μ-loop
-element-copy-out-b c = search needs
-
-sub-left : tie.Need-sub-left Inv-loop μ-loop
-sub-left c = search needs
-
-loop-less : tie.Need-loop-less Inv-loop μ-loop
-loop-less c = search needs
 
 loop-again : tie.Need-loop-again Inv-loop μ-loop
 loop-again c =
@@ -65,12 +50,12 @@ at-least-spec =
     μ-loop
     cast-if1
     returns
-    first-by-requires
+    (λ c κs. search needs)
     loop-holds
     returns-2
-    cast-i
-    element-copy-out-b
-    sub-left
-    loop-less
+    (λ c. search needs)
+    (λ c. search needs)
+    (λ c. search needs)
+    (λ c. search needs)
     loop-again
     returns-3)

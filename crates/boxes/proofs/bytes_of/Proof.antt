@@ -19,21 +19,6 @@ Inv-loop links bytes₀ n₀ bytes n = (n ≤ nodes) × (length bytes ≡ nodes)
 abbrev μ-loop : tie.MeasureT-loop
 μ-loop links bytes₀ n₀ bytes n = nodes - n
 
-loop-holds : tie.Need-loop-holds Inv-loop μ-loop
-loop-holds c = search needs
-
-array-copy-out-b : tie.Need-array-copy-out-b Inv-loop μ-loop
-array-copy-out-b c = search needs
-
-array-write-bytes : tie.Need-array-write-bytes Inv-loop μ-loop
-array-write-bytes c = search needs
-
-add-n : tie.Need-add-n Inv-loop μ-loop
-add-n c = search needs
-
-loop-less : tie.Need-loop-less Inv-loop μ-loop
-loop-less c = search needs
-
 loop-again : tie.Need-loop-again Inv-loop μ-loop
 loop-again c =
     let l = c .before .before .loop in
@@ -54,10 +39,10 @@ bytes-of-spec =
     (tie.spec
     Inv-loop
     μ-loop
-    loop-holds
-    array-copy-out-b
-    array-write-bytes
-    add-n
-    loop-less
+    (λ c. search needs)
+    (λ c. search needs)
+    (λ c. search needs)
+    (λ c. search needs)
+    (λ c. search needs)
     loop-again
     returns)

@@ -3,8 +3,5 @@ use Rattle.image.proofs.blank.Statement.{statement}
 use Rattle.image.proofs.blank.Tie as tie
 use borrow.Author.Needs.{needs}
 
-returns : tie.Need-returns
-returns c = search needs
-
 pub blank-spec : {M : Type 1} → statement M
-blank-spec = tie.close (tie.spec returns)
+blank-spec = tie.close (tie.spec (λ c. search needs))

@@ -5,9 +5,6 @@ use borrow.Author.Tests.{eq-eqb, ne-eqb}
 use Rattle.listing.proofs.answer.Statement.{statement}
 use Rattle.listing.proofs.answer.Tie as tie
 
-cast-running : tie.Need-cast-running
-cast-running c = search needs
-
 returns : tie.Need-returns
 returns c = rw (eq-eqb _ 14 (c .if1 .taken)) refl
 
@@ -15,4 +12,4 @@ returns-2 : tie.Need-returns-2
 returns-2 c = rw (ne-eqb _ 14 (c .if1 .left)) refl
 
 pub answer-spec : {M : Type 1} → statement M
-answer-spec = tie.close (tie.spec cast-running returns returns-2)
+answer-spec = tie.close (tie.spec (λ c. search needs) returns returns-2)

@@ -8,18 +8,6 @@ use Rattle.plain.specs.Sizes.{buffers}
 use Rattle.mail.proofs.with_length.Statement.{statement}
 use Rattle.mail.proofs.with_length.Tie as tie
 
-cast-i : tie.Need-cast-i
-cast-i c = search needs
-
-mul-lengths : tie.Need-mul-lengths
-mul-lengths c = search needs
-
-array-write-lengths : tie.Need-array-write-lengths
-array-write-lengths c = search needs
-
-returns : tie.Need-returns
-returns c = search needs
-
 returns-2 : tie.Need-returns-2
 returns-2 c =
     let a = c .before .before .args in
@@ -27,4 +15,4 @@ returns-2 c =
     sym (set-out (a .t1) (a .b .0) (a .n) (omega arith))
 
 pub with-length-spec : {M : Type 1} → statement M
-with-length-spec = tie.close (tie.spec cast-i mul-lengths array-write-lengths returns returns-2)
+with-length-spec = tie.close (tie.spec (λ c. search needs) (λ c. search needs) (λ c. search needs) (λ c. search needs) returns-2)

@@ -27,32 +27,11 @@ returns-2 c = λ l h. too-long (c .before .before .args .piece .now) (omega arit
 loop-holds : tie.Need-loop-holds Inv-loop μ-loop
 loop-holds c = (search needs, search needs, paste-zero _ (c .before .before .args .held) (c .before .before .args .piece .now))
 
-shared-slice-read-line : tie.Need-shared-slice-read-line Inv-loop μ-loop
-shared-slice-read-line c = search needs
-
-add-line : tie.Need-add-line Inv-loop μ-loop
-add-line c = search needs
-
-slice-write-line : tie.Need-slice-write-line Inv-loop μ-loop
-slice-write-line c = search needs
-
-add-i : tie.Need-add-i Inv-loop μ-loop
-add-i c = search needs
-
-loop-less : tie.Need-loop-less Inv-loop μ-loop
-loop-less c = search needs
-
 loop-again : tie.Need-loop-again Inv-loop μ-loop
 loop-again c =
     let given = c .before .before .before .before .before .args in
     let copied = paste-suc (given .line .now) (given .held) (given .piece .now) (c .before .before .loop .i) 0 (omega arith) (omega arith) in
     (search needs, simp length-set (omega arith), rw (c .before .before .loop .inv .2, add-one) copied)
-
-add-result : tie.Need-add-result Inv-loop μ-loop
-add-result c = search needs
-
-same-length : tie.Need-same-length Inv-loop μ-loop
-same-length c = search needs
 
 returns-3 : tie.Need-returns-3 Inv-loop μ-loop
 returns-3 c = λ l h.
@@ -61,4 +40,4 @@ returns-3 c = λ l h.
     rw (c .before .loop .inv .2, all) (longer piece (search needs) (omega arith) h)
 
 pub append-spec : {M : Type 1} → statement M
-append-spec = tie.close (tie.spec Inv-loop μ-loop returns returns-2 loop-holds shared-slice-read-line add-line slice-write-line add-i loop-less loop-again add-result same-length returns-3)
+append-spec = tie.close (tie.spec Inv-loop μ-loop returns returns-2 loop-holds (λ c. search needs) (λ c. search needs) (λ c. search needs) (λ c. search needs) (λ c. search needs) loop-again (λ c. search needs) (λ c. search needs) returns-3)

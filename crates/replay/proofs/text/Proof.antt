@@ -9,12 +9,6 @@ use Rattle.replay.proofs.LineLaws.{bad-fits, over-is-bad, in-buffer}
 use Rattle.replay.proofs.text.Statement.{statement}
 use Rattle.replay.proofs.text.Tie as tie
 
-put-bad-requires : tie.Need-put-bad-requires
-put-bad-requires c κs = search needs
-
-same-length : tie.Need-same-length
-same-length c = search needs
-
 returns : tie.Need-returns
 returns c =
     let start = c .before .before .before .before .before .before .before .before in
@@ -25,19 +19,10 @@ returns c =
 slice-aggregate-line : tie.Need-slice-aggregate-line
 slice-aggregate-line c = sym (length-take-le _ _ (search needs))
 
-line-requires : tie.Need-line-requires
-line-requires c κs = search needs
-
-same-length-2 : tie.Need-same-length-2
-same-length-2 c = search needs
-
-same-length-3 : tie.Need-same-length-3
-same-length-3 c = search needs
-
 returns-2 : tie.Need-returns-2
 returns-2 c =
     let turned = c .before .before .before .before .line .ensures in
     (every-text-fits _ _ _ _ _ _ _ turned .within, λ l h. rw (in-buffer (omega arith) h) at turned)
 
 pub text-spec : {M : Type 1} → statement M
-text-spec = tie.close (tie.spec put-bad-requires same-length returns slice-aggregate-line line-requires same-length-2 same-length-3 returns-2)
+text-spec = tie.close (tie.spec (λ c κs. search needs) (λ c. search needs) returns slice-aggregate-line (λ c κs. search needs) (λ c. search needs) (λ c. search needs) returns-2)

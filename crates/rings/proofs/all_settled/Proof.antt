@@ -29,9 +29,6 @@ shared-slice-read-settled-2 c = omega arith
 cast-settled : tie.Need-cast-settled Inv-loop μ-loop
 cast-settled c = omega arith
 
-settled-requires : tie.Need-settled-requires Inv-loop μ-loop
-settled-requires c κs = search needs
-
 add-p : tie.Need-add-p Inv-loop μ-loop
 add-p c = omega arith
 
@@ -59,7 +56,7 @@ all-settled-spec =
     shared-slice-read-settled
     shared-slice-read-settled-2
     cast-settled
-    settled-requires
+    (λ c κs. search needs)
     add-p
     loop-less
     loop-again

@@ -32,9 +32,6 @@ shared-slice-read-alone-2 c = omega (arith, c .before .before .before .before .p
 cast-alone : tie.Need-cast-alone Inv-loop μ-loop
 cast-alone c = omega (arith, c .before .before .before .before .pre .0 .small)
 
-alone-requires : tie.Need-alone-requires Inv-loop μ-loop
-alone-requires c κs = search needs
-
 returns : tie.Need-returns Inv-loop μ-loop
 returns c =
     let e = rw (c .if1 .taken) at (c .before .alone .ensures) in
@@ -52,24 +49,15 @@ loop-holds c = (c .before .before .before .before .before .before .pre .2, omega
 advance-requires : tie.Need-advance-requires Inv-loop μ-loop
 advance-requires c κs = (omega arith, omega arith)
 
-enum-told : tie.Need-enum-told Inv-loop μ-loop
-enum-told c = search needs
-
 returns-2 : tie.Need-returns-2 Inv-loop μ-loop
 returns-2 c =
     let l = c .before .before .before .before .loop in
     l .inv .2 true (l .at) (walk-closes _ _ _ (l .at) (l .a) _ (rw (c .enum-told .given .1) at (c .before .before .advance .ensures)))
 
-enum-told-2 : tie.Need-enum-told-2 Inv-loop μ-loop
-enum-told-2 c = search needs
-
 returns-3 : tie.Need-returns-3 Inv-loop μ-loop
 returns-3 c =
     let l = c .before .before .before .before .loop in
     l .inv .2 false (l .at) (walk-broken _ _ _ (l .at) (l .a) (rw (c .enum-told2 .given .1) at (c .before .before .advance .ensures)))
-
-enum-known-b : tie.Need-enum-known-b Inv-loop μ-loop
-enum-known-b c = search needs
 
 -- the member that the walk goes on to
 goes : (c : tie.After-known-told Inv-loop μ-loop) →
@@ -107,17 +95,17 @@ walk-spec =
     shared-slice-read-alone
     shared-slice-read-alone-2
     cast-alone
-    alone-requires
+    (λ c κs. search needs)
     returns
     add-mark
     cast-mark
     loop-holds
     advance-requires
-    enum-told
+    (λ c. search needs)
     returns-2
-    enum-told-2
+    (λ c. search needs)
     returns-3
-    enum-known-b
+    (λ c. search needs)
     element-write-at
     loop-less
     loop-again)

@@ -9,17 +9,11 @@ use borrow.Author.Needs.{needs}
 use Rattle.rows.proofs.node_before.Statement.{statement}
 use Rattle.rows.proofs.node_before.Tie as tie
 
-cast-i : tie.Need-cast-i
-cast-i c = search needs
-
 returns : tie.Need-returns
 returns c = let a = c .before .before .args in sym (List·getD-eq-default (map num (a .t1)) 0 (omega (arith, length-map (a .t1) num)))
-
-array-copy-out-x : tie.Need-array-copy-out-x
-array-copy-out-x c = search needs
 
 returns-2 : tie.Need-returns-2
 returns-2 c = let a = c .before .before .before .args in sym (entry num (record { 0 = 0 }) refl (a .t1) (a .p .0))
 
 pub node-before-spec : {M : Type 1} → statement M
-node-before-spec = tie.close (tie.spec cast-i returns array-copy-out-x returns-2)
+node-before-spec = tie.close (tie.spec (λ c. search needs) returns (λ c. search needs) returns-2)

@@ -5,19 +5,13 @@ use borrow.Author.Needs.{needs}
 use Rattle.rows.proofs.spot_at.Statement.{statement}
 use Rattle.rows.proofs.spot_at.Tie as tie
 
-nowhere-requires : tie.Need-nowhere-requires
-nowhere-requires c κs = search needs
-
 returns : tie.Need-returns
 unfolding spotAt
 returns c = rw (lt-ltb _ _ (c .before .if1 .taken)) (c .nowhere .ensures)
-
-spot-in-requires : tie.Need-spot-in-requires
-spot-in-requires c κs = search needs
 
 returns-2 : tie.Need-returns-2
 unfolding spotAt
 returns-2 c = rw (le-ltb _ _ (c .before .before .if1 .left)) (c .spot-in .ensures)
 
 pub spot-at-spec : {M : Type 1} → statement M
-spot-at-spec = tie.close (tie.spec nowhere-requires returns spot-in-requires returns-2)
+spot-at-spec = tie.close (tie.spec (λ c κs. search needs) returns (λ c κs. search needs) returns-2)

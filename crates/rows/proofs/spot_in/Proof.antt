@@ -17,9 +17,6 @@ returns-3 : tie.Need-returns-3
 unfolding spotIn
 returns-3 c = rw (le-ltb _ _ (c .before .before .if1 .left), le-ltb _ _ (c .before .if2 .left), lt-ltb _ _ (c .if3 .taken))
 
-nowhere-requires : tie.Need-nowhere-requires
-nowhere-requires c κs = search needs
-
 returns-4 : tie.Need-returns-4
 unfolding spotIn
 returns-4 c = rw (le-ltb _ _ (c .before .before .before .if1 .left), le-ltb _ _ (c .before .before .if2 .left), le-ltb _ _ (c .before .if3 .left)) (c .nowhere .ensures)
@@ -31,5 +28,5 @@ spot-in-spec =
     returns
     returns-2
     returns-3
-    nowhere-requires
+    (λ c κs. search needs)
     returns-4)

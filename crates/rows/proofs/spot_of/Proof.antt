@@ -9,20 +9,11 @@ use borrow.Author.Needs.{needs}
 use Rattle.rows.proofs.spot_of.Statement.{statement}
 use Rattle.rows.proofs.spot_of.Tie as tie
 
-entry-requires : tie.Need-entry-requires
-entry-requires c κs = search needs
-
 returns : tie.Need-returns
 unfolding spotOf Stands.numbers
 returns c =
     let a = c .before .before .before .before .before .before .args in
     rw (eq-eqb (a .p .0) (a .k .running .0) (c .before .before .if1 .taken)) (ap (λ (n : ℕ). spot 1 n 0) (c .entry .ensures))
-
-walk-back-requires : tie.Need-walk-back-requires
-walk-back-requires c κs = search needs
-
-spot-at-requires : tie.Need-spot-at-requires
-spot-at-requires c κs = search needs
 
 returns-2 : tie.Need-returns-2
 unfolding spotOf Stands.numbers tablesOf
@@ -32,4 +23,4 @@ returns-2 c =
 
 pub spot-of-spec : {M : Type 1} → statement M
 spot-of-spec =
-    tie.close (tie.spec entry-requires returns walk-back-requires spot-at-requires returns-2)
+    tie.close (tie.spec (λ c κs. search needs) returns (λ c κs. search needs) (λ c κs. search needs) returns-2)

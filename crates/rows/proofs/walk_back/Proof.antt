@@ -23,26 +23,11 @@ abbrev μ-loop : tie.MeasureT-loop
 whole : (c : tie.After-node-before Inv-loop μ-loop) {w : Way} → back (map num (c .before .args .t1)) processes (c .node-before .result) 0 ≡ w → w ≡ back (map num (c .before .args .t1)) processes (getD (map num (c .before .args .t1)) (c .before .args .p .0) 0) 0
 whole c e = sym (rw (← c .node-before .ensures) e)
 
-node-before-requires : tie.Need-node-before-requires Inv-loop μ-loop
-node-before-requires c κs = search needs
-
 loop-holds : tie.Need-loop-holds Inv-loop μ-loop
 loop-holds c = (omega arith, refl)
 
 returns : tie.Need-returns Inv-loop μ-loop
 returns c = let l = c .before .before in whole (l .before) (l .loop .inv .1 ∙ back-ends _ _ _ _ (c .if1 .taken))
-
-cast-i : tie.Need-cast-i Inv-loop μ-loop
-cast-i c = search needs
-
-array-copy-out-x : tie.Need-array-copy-out-x Inv-loop μ-loop
-array-copy-out-x c = search needs
-
-add-passed : tie.Need-add-passed Inv-loop μ-loop
-add-passed c = search needs
-
-loop-less : tie.Need-loop-less Inv-loop μ-loop
-loop-less c = search needs
 
 loop-again : tie.Need-loop-again Inv-loop μ-loop
 loop-again c =
@@ -62,12 +47,12 @@ walk-back-spec =
     (tie.spec
     Inv-loop
     μ-loop
-    node-before-requires
+    (λ c κs. search needs)
     loop-holds
     returns
-    cast-i
-    array-copy-out-x
-    add-passed
-    loop-less
+    (λ c. search needs)
+    (λ c. search needs)
+    (λ c. search needs)
+    (λ c. search needs)
     loop-again
     returns-2)

@@ -9,19 +9,13 @@ use Rattle.script.proofs.CallLaws.{tells}
 use Rattle.script.proofs.request.Statement.{statement}
 use Rattle.script.proofs.request.Tie as tie
 
-bad-requires : tie.Need-bad-requires
-bad-requires c κs = search needs
-
 returns : tie.Need-returns
 unfolding call
 returns c = let line = c .before .before .before .args .line .now in tells line _ (rw (lt-ltb longestLine (length line) (omega arith)) (c .bad .ensures))
-
-sentence-requires : tie.Need-sentence-requires
-sentence-requires c κs = search needs
 
 returns-2 : tie.Need-returns-2
 unfolding call
 returns-2 c = let line = c .before .before .before .args .line .now in tells line _ (rw (le-ltb longestLine (length line) (omega arith)) (c .sentence .ensures))
 
 pub request-spec : {M : Type 1} → statement M
-request-spec = tie.close (tie.spec bad-requires returns sentence-requires returns-2)
+request-spec = tie.close (tie.spec (λ c κs. search needs) returns (λ c κs. search needs) returns-2)

@@ -20,30 +20,6 @@ abbrev μ-loop : tie.MeasureT-loop
 loop-holds : tie.Need-loop-holds Inv-loop μ-loop
 loop-holds c = (omega arith, λ i h. absurd (omega arith))
 
-array-read-buffer-fits : tie.Need-array-read-buffer-fits Inv-loop μ-loop
-array-read-buffer-fits c = search needs
-
-mul-buffer-fits : tie.Need-mul-buffer-fits Inv-loop μ-loop
-mul-buffer-fits c = search needs
-
-array-read-buffer-fits-2 : tie.Need-array-read-buffer-fits-2 Inv-loop μ-loop
-array-read-buffer-fits-2 c = search needs
-
-cast-has-bit : tie.Need-cast-has-bit Inv-loop μ-loop
-cast-has-bit c = search needs
-
-has-bit-requires : tie.Need-has-bit-requires Inv-loop μ-loop
-has-bit-requires c κs = search needs
-
-buffer-fits-requires : tie.Need-buffer-fits-requires Inv-loop μ-loop
-buffer-fits-requires c κs = search needs
-
-add-b : tie.Need-add-b Inv-loop μ-loop
-add-b c = search needs
-
-loop-less : tie.Need-loop-less Inv-loop μ-loop
-loop-less c = search needs
-
 loop-again : tie.Need-loop-again Inv-loop μ-loop
 loop-again c =
     let r = c .buffer-fits in
@@ -62,13 +38,13 @@ buffers-fit-spec =
     Inv-loop
     μ-loop
     loop-holds
-    array-read-buffer-fits
-    mul-buffer-fits
-    array-read-buffer-fits-2
-    cast-has-bit
-    has-bit-requires
-    buffer-fits-requires
-    add-b
-    loop-less
+    (λ c. search needs)
+    (λ c. search needs)
+    (λ c. search needs)
+    (λ c. search needs)
+    (λ c κs. search needs)
+    (λ c κs. search needs)
+    (λ c. search needs)
+    (λ c. search needs)
     loop-again
     returns)

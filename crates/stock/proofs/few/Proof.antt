@@ -19,17 +19,8 @@ Inv-loop next m₀ m = (m ≤ mailboxes) × ((i : ℕ) → i < m → (prev : Lis
 abbrev μ-loop : tie.MeasureT-loop
 μ-loop next m₀ m = mailboxes - m
 
-bytes-of-requires : tie.Need-bytes-of-requires Inv-loop μ-loop
-bytes-of-requires c κs = search needs
-
 loop-holds : tie.Need-loop-holds Inv-loop μ-loop
 loop-holds c = (omega arith, λ i h. absurd (omega arith))
-
-add-at-least : tie.Need-add-at-least Inv-loop μ-loop
-add-at-least c = search needs
-
-at-least-requires : tie.Need-at-least-requires Inv-loop μ-loop
-at-least-requires c κs = search needs
 
 -- what is asked of mailbox m, whatever the links back are
 asked : (d : tie.After-at-least Inv-loop μ-loop) (prev : List ℕ) →
@@ -48,12 +39,6 @@ returns c =
     let e : c .before .at-least .result ≡ holdsAtLeast buffers mailboxes (tablesOf k) (l .loop .m) (capacity + 1) = rw (l .before .bytes-of .ensures) at (asked (c .before) (map num (k .prev))) in
     λ w. true≢false (sym (c .if1 .taken) ∙ e ∙ w (l .loop .m) (omega arith))
 
-add-m : tie.Need-add-m Inv-loop μ-loop
-add-m c = search needs
-
-loop-less : tie.Need-loop-less Inv-loop μ-loop
-loop-less c = search needs
-
 loop-again : tie.Need-loop-again Inv-loop μ-loop
 loop-again c = (omega arith, below-more _ _ (c .before .before .before .before .loop .inv .1) (λ prev. sym (asked (c .before) prev) ∙ c .if1 .left))
 
@@ -69,12 +54,12 @@ few-spec =
     (tie.spec
     Inv-loop
     μ-loop
-    bytes-of-requires
+    (λ c κs. search needs)
     loop-holds
-    add-at-least
-    at-least-requires
+    (λ c. search needs)
+    (λ c κs. search needs)
     returns
-    add-m
-    loop-less
+    (λ c. search needs)
+    (λ c. search needs)
     loop-again
     returns-2)

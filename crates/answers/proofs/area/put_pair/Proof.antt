@@ -6,18 +6,6 @@ use borrow.Author.Needs.{needs}
 use Rattle.answers.proofs.area.put_pair.Statement.{statement}
 use Rattle.answers.proofs.area.put_pair.Tie as tie
 
-hex-of-requires : tie.Need-hex-of-requires
-hex-of-requires c κs = search needs
-
-slice-write-out : tie.Need-slice-write-out
-slice-write-out c = search needs
-
-hex-of-requires-2 : tie.Need-hex-of-requires-2
-hex-of-requires-2 c κs = search needs
-
-add-out : tie.Need-add-out
-add-out c = search needs
-
 slice-write-out-2 : tie.Need-slice-write-out-2
 slice-write-out-2 c = simp length-set (omega arith)
 
@@ -31,10 +19,10 @@ pub put-pair-spec : {M : Type 1} → statement M
 put-pair-spec =
     tie.close
     (tie.spec
-    hex-of-requires
-    slice-write-out
-    hex-of-requires-2
-    add-out
+    (λ c κs. search needs)
+    (λ c. search needs)
+    (λ c κs. search needs)
+    (λ c. search needs)
     slice-write-out-2
     same-length
     returns)

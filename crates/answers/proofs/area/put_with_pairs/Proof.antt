@@ -14,35 +14,8 @@ use Rattle.answers.proofs.area.put_with_pairs.Tie as tie
 returns : tie.Need-returns
 returns c = let s = c .before .before .before .before .args in written-none _ (s .out .now) (simp (length-append, pairs-length) (omega arith))
 
-sub-if2 : tie.Need-sub-if2
-sub-if2 c = search needs
-
 returns-2 : tie.Need-returns-2
 returns-2 c = let s = c .before .before .before .before .before .args in written-none _ (s .out .now) (simp (length-append, pairs-length) (omega arith))
-
-put-requires : tie.Need-put-requires
-put-requires c κs = search needs
-
-sub-put-pairs : tie.Need-sub-put-pairs
-sub-put-pairs c = search needs
-
-part-put-pairs-start : tie.Need-part-put-pairs-start
-part-put-pairs-start c = search needs
-
-part-put-pairs-end : tie.Need-part-put-pairs-end
-part-put-pairs-end c = search needs
-
-put-pairs-requires : tie.Need-put-pairs-requires
-put-pairs-requires c κs = search needs
-
-add-result : tie.Need-add-result
-add-result c = search needs
-
-add-result-2 : tie.Need-add-result-2
-add-result-2 c = search needs
-
-same-length : tie.Need-same-length
-same-length c = search needs
 
 returns-3 : tie.Need-returns-3
 returns-3 c =
@@ -61,14 +34,14 @@ put-with-pairs-spec =
     tie.close
     (tie.spec
     returns
-    sub-if2
+    (λ c. search needs)
     returns-2
-    put-requires
-    sub-put-pairs
-    part-put-pairs-start
-    part-put-pairs-end
-    put-pairs-requires
-    add-result
-    add-result-2
-    same-length
+    (λ c κs. search needs)
+    (λ c. search needs)
+    (λ c. search needs)
+    (λ c. search needs)
+    (λ c κs. search needs)
+    (λ c. search needs)
+    (λ c. search needs)
+    (λ c. search needs)
     returns-3)

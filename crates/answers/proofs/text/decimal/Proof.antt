@@ -17,23 +17,11 @@ Inv-loop n text₀ v₀ text v = (tens v₀ ++ shown text₀ ≡ tens v ++ shown
 abbrev μ-loop : tie.MeasureT-loop
 μ-loop n text₀ v₀ text v = v
 
-last-digit-requires : tie.Need-last-digit-requires Inv-loop μ-loop
-last-digit-requires c κs = search needs
-
-front-requires : tie.Need-front-requires Inv-loop μ-loop
-front-requires c κs = search needs
-
 loop-holds : tie.Need-loop-holds Inv-loop μ-loop
 loop-holds c = (refl, refl, omega arith)
 
-last-digit-requires-2 : tie.Need-last-digit-requires-2 Inv-loop μ-loop
-last-digit-requires-2 c κs = search needs
-
 front-requires-2 : tie.Need-front-requires-2 Inv-loop μ-loop
 front-requires-2 c κs = let n = c .before .before .before .before .before .args .n in omega (arith, tens-length (c .before .before .loop .v) (c .before .loop-test .taken), decimal-length n, decimal-short n (c .before .before .before .before .before .fits .n .fits))
-
-loop-less : tie.Need-loop-less Inv-loop μ-loop
-loop-less c = search needs
 
 loop-again : tie.Need-loop-again Inv-loop μ-loop
 loop-again c =
@@ -59,11 +47,11 @@ decimal-spec =
     (tie.spec
     Inv-loop
     μ-loop
-    last-digit-requires
-    front-requires
+    (λ c κs. search needs)
+    (λ c κs. search needs)
     loop-holds
-    last-digit-requires-2
+    (λ c κs. search needs)
     front-requires-2
-    loop-less
+    (λ c. search needs)
     loop-again
     returns)

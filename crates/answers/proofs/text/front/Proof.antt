@@ -10,12 +10,6 @@ use Rattle.answers.proofs.TextLaws.{front-shown}
 use Rattle.answers.proofs.text.front.Statement.{statement}
 use Rattle.answers.proofs.text.front.Tie as tie
 
-sub-at : tie.Need-sub-at
-sub-at c = search needs
-
-array-write-bytes : tie.Need-array-write-bytes
-array-write-bytes c = search needs
-
 returns : tie.Need-returns
 returns c =
     let t = c .before .before .args .t in
@@ -23,4 +17,4 @@ returns c =
     (front-shown (t .bytes) (t .at - 1) (t .at) (c .before .before .args .b) (omega arith) (omega arith), omega arith)
 
 pub front-spec : {M : Type 1} → statement M
-front-spec = tie.close (tie.spec sub-at array-write-bytes returns)
+front-spec = tie.close (tie.spec (λ c. search needs) (λ c. search needs) returns)

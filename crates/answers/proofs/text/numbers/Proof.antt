@@ -6,17 +6,8 @@ use borrow.Author.Needs.{needs}
 use Rattle.answers.proofs.text.numbers.Statement.{statement}
 use Rattle.answers.proofs.text.numbers.Tie as tie
 
-spaced-requires : tie.Need-spaced-requires
-spaced-requires c κs = search needs
-
-spaced-requires-2 : tie.Need-spaced-requires-2
-spaced-requires-2 c κs = search needs
-
-decimal-requires : tie.Need-decimal-requires
-decimal-requires c κs = search needs
-
 returns : tie.Need-returns
 returns c = (rw (c .decimal .ensures .0, c .before .spaced2 .ensures .0, c .before .before .spaced .ensures .0) (simp append-assoc), omega arith)
 
 pub numbers-spec : {M : Type 1} → statement M
-numbers-spec = tie.close (tie.spec spaced-requires spaced-requires-2 decimal-requires returns)
+numbers-spec = tie.close (tie.spec (λ c κs. search needs) (λ c κs. search needs) (λ c κs. search needs) returns)

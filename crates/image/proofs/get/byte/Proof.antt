@@ -5,9 +5,6 @@ use Rattle.image.proofs.Areas.{got-one}
 use Rattle.image.proofs.get.byte.Statement.{statement}
 use Rattle.image.proofs.get.byte.Tie as tie
 
-shared-slice-read-result : tie.Need-shared-slice-read-result
-shared-slice-read-result c = search needs
-
 returns : tie.Need-returns
 returns c = got-one _ _
 
@@ -15,4 +12,4 @@ returns-2 : tie.Need-returns-2
 returns-2 c = record { there = λ h. absurd (omega arith) }
 
 pub byte-spec : {M : Type 1} → statement M
-byte-spec = tie.close (tie.spec shared-slice-read-result returns returns-2)
+byte-spec = tie.close (tie.spec (λ c. search needs) returns returns-2)

@@ -15,29 +15,11 @@ Inv-loop area at out₀ i₀ out i = (i ≤ 32) × (at + 32 ≤ length area) × 
 abbrev μ-loop : tie.MeasureT-loop
 μ-loop area at out₀ i₀ out i = 32 - i
 
-has-room-requires : tie.Need-has-room-requires Inv-loop μ-loop
-has-room-requires c κs = search needs
-
 returns : tie.Need-returns Inv-loop μ-loop
 returns c = no-got (c .before .has-room .ensures) (c .if1 .taken)
 
 loop-holds : tie.Need-loop-holds Inv-loop μ-loop
 loop-holds c = (search needs, has-room _ _ _ (c .before .has-room .ensures) (c .if1 .left), refl, record { there = λ h. refl })
-
-add-out : tie.Need-add-out Inv-loop μ-loop
-add-out c = search needs
-
-shared-slice-read-out : tie.Need-shared-slice-read-out Inv-loop μ-loop
-shared-slice-read-out c = search needs
-
-array-write-out : tie.Need-array-write-out Inv-loop μ-loop
-array-write-out c = search needs
-
-add-i : tie.Need-add-i Inv-loop μ-loop
-add-i c = search needs
-
-loop-less : tie.Need-loop-less Inv-loop μ-loop
-loop-less c = search needs
 
 loop-again : tie.Need-loop-again Inv-loop μ-loop
 loop-again c =
@@ -56,13 +38,13 @@ bytes-spec =
     (tie.spec
     Inv-loop
     μ-loop
-    has-room-requires
+    (λ c κs. search needs)
     returns
     loop-holds
-    add-out
-    shared-slice-read-out
-    array-write-out
-    add-i
-    loop-less
+    (λ c. search needs)
+    (λ c. search needs)
+    (λ c. search needs)
+    (λ c. search needs)
+    (λ c. search needs)
     loop-again
     returns-2)

@@ -4,14 +4,8 @@ use Rattle.image.proofs.Codes.{from-le16}
 use Rattle.image.proofs.get.from_le16.Statement.{statement}
 use Rattle.image.proofs.get.from_le16.Tie as tie
 
-mul-result : tie.Need-mul-result
-mul-result c = search needs
-
-add-result : tie.Need-add-result
-add-result c = search needs
-
 returns : tie.Need-returns
 returns c = from-le16 _ _ (search needs) (search needs)
 
 pub from-le16-spec : {M : Type 1} → statement M
-from-le16-spec = tie.close (tie.spec mul-result add-result returns)
+from-le16-spec = tie.close (tie.spec (λ c. search needs) (λ c. search needs) returns)

@@ -4,28 +4,10 @@ use Rattle.image.proofs.Codes.{from-le32}
 use Rattle.image.proofs.get.from_le32.Statement.{statement}
 use Rattle.image.proofs.get.from_le32.Tie as tie
 
-mul-result : tie.Need-mul-result
-mul-result c = search needs
-
-add-result : tie.Need-add-result
-add-result c = search needs
-
-mul-result-2 : tie.Need-mul-result-2
-mul-result-2 c = search needs
-
-add-result-2 : tie.Need-add-result-2
-add-result-2 c = search needs
-
-mul-result-3 : tie.Need-mul-result-3
-mul-result-3 c = search needs
-
-add-result-3 : tie.Need-add-result-3
-add-result-3 c = search needs
-
 returns : tie.Need-returns
 returns c = from-le32 _ _ _ _ (search needs) (search needs) (search needs) (search needs)
 
 pub from-le32-spec : {M : Type 1} → statement M
 from-le32-spec =
     tie.close
-    (tie.spec mul-result add-result mul-result-2 add-result-2 mul-result-3 add-result-3 returns)
+    (tie.spec (λ c. search needs) (λ c. search needs) (λ c. search needs) (λ c. search needs) (λ c. search needs) (λ c. search needs) returns)

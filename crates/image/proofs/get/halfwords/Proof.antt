@@ -15,50 +15,11 @@ Inv-loop area at out₀ i₀ out i = (i ≤ length out) × (at + 2 * length out 
 abbrev μ-loop : tie.MeasureT-loop
 μ-loop area at out₀ i₀ out i = length out - i
 
-mul-has-room : tie.Need-mul-has-room Inv-loop μ-loop
-mul-has-room c = search needs
-
-has-room-requires : tie.Need-has-room-requires Inv-loop μ-loop
-has-room-requires c κs = search needs
-
 returns : tie.Need-returns Inv-loop μ-loop
 returns c = no-got (c .before .has-room .ensures) (c .if1 .taken)
 
 loop-holds : tie.Need-loop-holds Inv-loop μ-loop
 loop-holds c = (search needs, has-room _ _ _ (c .before .has-room .ensures) (c .if1 .left), refl, record { there = λ h. refl })
-
-mul-from-le16 : tie.Need-mul-from-le16 Inv-loop μ-loop
-mul-from-le16 c = search needs
-
-add-from-le16 : tie.Need-add-from-le16 Inv-loop μ-loop
-add-from-le16 c = search needs
-
-shared-slice-read-from-le16 : tie.Need-shared-slice-read-from-le16 Inv-loop μ-loop
-shared-slice-read-from-le16 c = search needs
-
-mul-from-le16-2 : tie.Need-mul-from-le16-2 Inv-loop μ-loop
-mul-from-le16-2 c = search needs
-
-add-from-le16-2 : tie.Need-add-from-le16-2 Inv-loop μ-loop
-add-from-le16-2 c = search needs
-
-add-from-le16-3 : tie.Need-add-from-le16-3 Inv-loop μ-loop
-add-from-le16-3 c = search needs
-
-shared-slice-read-from-le16-2 : tie.Need-shared-slice-read-from-le16-2 Inv-loop μ-loop
-shared-slice-read-from-le16-2 c = search needs
-
-from-le16-requires : tie.Need-from-le16-requires Inv-loop μ-loop
-from-le16-requires c κs = search needs
-
-mul-out : tie.Need-mul-out Inv-loop μ-loop
-mul-out c = search needs
-
-slice-write-out : tie.Need-slice-write-out Inv-loop μ-loop
-slice-write-out c = search needs
-
-add-i : tie.Need-add-i Inv-loop μ-loop
-add-i c = search needs
 
 loop-less : tie.Need-loop-less Inv-loop μ-loop
 loop-less c = simp length-set (omega arith)
@@ -88,21 +49,21 @@ halfwords-spec =
     (tie.spec
     Inv-loop
     μ-loop
-    mul-has-room
-    has-room-requires
+    (λ c. search needs)
+    (λ c κs. search needs)
     returns
     loop-holds
-    mul-from-le16
-    add-from-le16
-    shared-slice-read-from-le16
-    mul-from-le16-2
-    add-from-le16-2
-    add-from-le16-3
-    shared-slice-read-from-le16-2
-    from-le16-requires
-    mul-out
-    slice-write-out
-    add-i
+    (λ c. search needs)
+    (λ c. search needs)
+    (λ c. search needs)
+    (λ c. search needs)
+    (λ c. search needs)
+    (λ c. search needs)
+    (λ c. search needs)
+    (λ c κs. search needs)
+    (λ c. search needs)
+    (λ c. search needs)
+    (λ c. search needs)
     loop-less
     loop-again
     same-length

@@ -10,9 +10,6 @@ use Rattle.image.proofs.get.word.Tie as tie
 room : (c : tie.Else1) → c .before .before .before .args .at + 4 ≤ length (c .before .before .before .args .area .now)
 room c = has-room _ _ _ (c .before .has-room .ensures) (c .if1 .left)
 
-has-room-requires : tie.Need-has-room-requires
-has-room-requires c κs = search needs
-
 returns : tie.Need-returns
 returns c = no-got (c .before .has-room .ensures) (c .if1 .taken)
 
@@ -37,9 +34,6 @@ add-from-le32-3 c = omega (arith, room (c .before .before .before))
 shared-slice-read-from-le32-4 : tie.Need-shared-slice-read-from-le32-4
 shared-slice-read-from-le32-4 c = omega (arith, room (c .before .before .before .before))
 
-from-le32-requires : tie.Need-from-le32-requires
-from-le32-requires c κs = search needs
-
 returns-2 : tie.Need-returns-2
 returns-2 c = rw (c .from-le32 .ensures) (got-four _ _)
 
@@ -47,7 +41,7 @@ pub word-spec : {M : Type 1} → statement M
 word-spec =
     tie.close
     (tie.spec
-    has-room-requires
+    (λ c κs. search needs)
     returns
     shared-slice-read-from-le32
     add-from-le32
@@ -56,5 +50,5 @@ word-spec =
     shared-slice-read-from-le32-3
     add-from-le32-3
     shared-slice-read-from-le32-4
-    from-le32-requires
+    (λ c κs. search needs)
     returns-2)

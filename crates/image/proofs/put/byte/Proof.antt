@@ -6,12 +6,6 @@ use Rattle.image.proofs.Areas.{put-one}
 use Rattle.image.proofs.put.byte.Statement.{statement}
 use Rattle.image.proofs.put.byte.Tie as tie
 
-slice-write-area : tie.Need-slice-write-area
-slice-write-area c = search needs
-
-same-length : tie.Need-same-length
-same-length c = search needs
-
 returns : tie.Need-returns
 returns c = put-one _ _ _
 
@@ -19,4 +13,4 @@ returns-2 : tie.Need-returns-2
 returns-2 c = record { long = refl; there = λ h. absurd (omega arith) }
 
 pub byte-spec : {M : Type 1} → statement M
-byte-spec = tie.close (tie.spec slice-write-area same-length returns returns-2)
+byte-spec = tie.close (tie.spec (λ c. search needs) (λ c. search needs) returns returns-2)

@@ -15,56 +15,14 @@ Inv-loop area₀ at xs i₀ area i = (i ≤ length xs) × (at + 2 * length xs �
 abbrev μ-loop : tie.MeasureT-loop
 μ-loop area₀ at xs i₀ area i = length xs - i
 
-mul-has-room : tie.Need-mul-has-room Inv-loop μ-loop
-mul-has-room c = search needs
-
-has-room-requires : tie.Need-has-room-requires Inv-loop μ-loop
-has-room-requires c κs = search needs
-
 returns : tie.Need-returns Inv-loop μ-loop
 returns c = no-put (c .before .has-room .ensures) (c .if1 .taken)
 
 loop-holds : tie.Need-loop-holds Inv-loop μ-loop
 loop-holds c = (search needs, has-room _ _ _ (c .before .has-room .ensures) (c .if1 .left), put-none)
 
-mul-x : tie.Need-mul-x Inv-loop μ-loop
-mul-x c = search needs
-
-shared-slice-read-x : tie.Need-shared-slice-read-x Inv-loop μ-loop
-shared-slice-read-x c = search needs
-
-cast-area : tie.Need-cast-area Inv-loop μ-loop
-cast-area c = search needs
-
-mul-area : tie.Need-mul-area Inv-loop μ-loop
-mul-area c = search needs
-
-add-area : tie.Need-add-area Inv-loop μ-loop
-add-area c = search needs
-
-slice-write-area : tie.Need-slice-write-area Inv-loop μ-loop
-slice-write-area c = search needs
-
-cast-area-2 : tie.Need-cast-area-2 Inv-loop μ-loop
-cast-area-2 c = search needs
-
-mul-area-2 : tie.Need-mul-area-2 Inv-loop μ-loop
-mul-area-2 c = search needs
-
-add-area-2 : tie.Need-add-area-2 Inv-loop μ-loop
-add-area-2 c = search needs
-
-add-area-3 : tie.Need-add-area-3 Inv-loop μ-loop
-add-area-3 c = search needs
-
 slice-write-area-2 : tie.Need-slice-write-area-2 Inv-loop μ-loop
 slice-write-area-2 c = simp length-set (omega arith)
-
-add-i : tie.Need-add-i Inv-loop μ-loop
-add-i c = search needs
-
-loop-less : tie.Need-loop-less Inv-loop μ-loop
-loop-less c = search needs
 
 loop-again : tie.Need-loop-again Inv-loop μ-loop
 loop-again c =
@@ -91,23 +49,23 @@ halfwords-spec =
     (tie.spec
     Inv-loop
     μ-loop
-    mul-has-room
-    has-room-requires
+    (λ c. search needs)
+    (λ c κs. search needs)
     returns
     loop-holds
-    mul-x
-    shared-slice-read-x
-    cast-area
-    mul-area
-    add-area
-    slice-write-area
-    cast-area-2
-    mul-area-2
-    add-area-2
-    add-area-3
+    (λ c. search needs)
+    (λ c. search needs)
+    (λ c. search needs)
+    (λ c. search needs)
+    (λ c. search needs)
+    (λ c. search needs)
+    (λ c. search needs)
+    (λ c. search needs)
+    (λ c. search needs)
+    (λ c. search needs)
     slice-write-area-2
-    add-i
-    loop-less
+    (λ c. search needs)
+    (λ c. search needs)
     loop-again
     same-length
     returns-2)

@@ -16,29 +16,11 @@ Inv-loop area₀ at xs i₀ area i = (i ≤ 32) × (at + 32 ≤ length area₀) 
 abbrev μ-loop : tie.MeasureT-loop
 μ-loop area₀ at xs i₀ area i = 32 - i
 
-has-room-requires : tie.Need-has-room-requires Inv-loop μ-loop
-has-room-requires c κs = search needs
-
 returns : tie.Need-returns Inv-loop μ-loop
 returns c = no-put (c .before .has-room .ensures) (c .if1 .taken)
 
 loop-holds : tie.Need-loop-holds Inv-loop μ-loop
 loop-holds c = (search needs, has-room _ _ _ (c .before .has-room .ensures) (c .if1 .left), put-none)
-
-array-copy-out-b : tie.Need-array-copy-out-b Inv-loop μ-loop
-array-copy-out-b c = search needs
-
-add-area : tie.Need-add-area Inv-loop μ-loop
-add-area c = search needs
-
-slice-write-area : tie.Need-slice-write-area Inv-loop μ-loop
-slice-write-area c = search needs
-
-add-i : tie.Need-add-i Inv-loop μ-loop
-add-i c = search needs
-
-loop-less : tie.Need-loop-less Inv-loop μ-loop
-loop-less c = search needs
 
 loop-again : tie.Need-loop-again Inv-loop μ-loop
 loop-again c =
@@ -63,14 +45,14 @@ hands-spec =
     (tie.spec
     Inv-loop
     μ-loop
-    has-room-requires
+    (λ c κs. search needs)
     returns
     loop-holds
-    array-copy-out-b
-    add-area
-    slice-write-area
-    add-i
-    loop-less
+    (λ c. search needs)
+    (λ c. search needs)
+    (λ c. search needs)
+    (λ c. search needs)
+    (λ c. search needs)
     loop-again
     same-length
     returns-2)

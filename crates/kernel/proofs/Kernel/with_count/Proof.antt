@@ -3,8 +3,5 @@ use borrow.Author.Needs.{needs}
 use Rattle.kernel.proofs.Kernel.with_count.Statement.{statement}
 use Rattle.kernel.proofs.Kernel.with_count.Tie as tie
 
-returns : tie.Need-returns
-returns c = search needs
-
 pub with-count-spec : {M : Type 1} → statement M
-with-count-spec = tie.close (tie.spec returns)
+with-count-spec = tie.close (tie.spec (λ c. search needs))

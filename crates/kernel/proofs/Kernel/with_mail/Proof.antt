@@ -3,8 +3,5 @@ use borrow.Author.Needs.{needs}
 use Rattle.kernel.proofs.Kernel.with_mail.Statement.{statement}
 use Rattle.kernel.proofs.Kernel.with_mail.Tie as tie
 
-returns : tie.Need-returns
-returns c = search needs
-
 pub with-mail-spec : {M : Type 1} → statement M
-with-mail-spec = tie.close (tie.spec returns)
+with-mail-spec = tie.close (tie.spec (λ c. search needs))

@@ -3,8 +3,5 @@ use borrow.Author.Needs.{needs}
 use Rattle.kernel.proofs.Kernel.with_procs.Statement.{statement}
 use Rattle.kernel.proofs.Kernel.with_procs.Tie as tie
 
-returns : tie.Need-returns
-returns c = search needs
-
 pub with-procs-spec : {M : Type 1} → statement M
-with-procs-spec = tie.close (tie.spec returns)
+with-procs-spec = tie.close (tie.spec (λ c. search needs))

@@ -6,15 +6,9 @@ use Rattle.mail.specs.Moves.{lengthAt, firstLength}
 use Rattle.mail.proofs.Mail.first_length.Statement.{statement}
 use Rattle.mail.proofs.Mail.first_length.Tie as tie
 
-first-requires : tie.Need-first-requires
-first-requires c κs = search needs
-
-length-of-requires : tie.Need-length-of-requires
-length-of-requires c κs = search needs
-
 returns : tie.Need-returns
 unfolding numbers firstLength
 returns c = c .length-of .ensures ∙ ap (lengthAt (numbers (c .before .before .before .before .args .self))) (c .before .first .ensures .whole)
 
 pub first-length-spec : {M : Type 1} → statement M
-first-length-spec = tie.close (tie.spec first-requires length-of-requires returns)
+first-length-spec = tie.close (tie.spec (λ c κs. search needs) (λ c κs. search needs) returns)

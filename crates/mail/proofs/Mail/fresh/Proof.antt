@@ -6,12 +6,9 @@ use Rattle.mail.specs.Moves.{freshMail}
 use Rattle.mail.proofs.Mail.fresh.Statement.{statement}
 use Rattle.mail.proofs.Mail.fresh.Tie as tie
 
-fresh-requires : tie.Need-fresh-requires
-fresh-requires c κs = search needs
-
 returns : tie.Need-returns
 unfolding numbers freshMail word
 returns c = rw (c .fresh .ensures .whole)
 
 pub fresh-spec : {M : Type 1} → statement M
-fresh-spec = tie.close (tie.spec fresh-requires returns)
+fresh-spec = tie.close (tie.spec (λ c κs. search needs) returns)

@@ -5,12 +5,9 @@ use Rattle.mail.specs.Moves.{handAt}
 use Rattle.mail.proofs.Mail.in_hand.Statement.{statement}
 use Rattle.mail.proofs.Mail.in_hand.Tie as tie
 
-hand-of-requires : tie.Need-hand-of-requires
-hand-of-requires c κs = search needs
-
 returns : tie.Need-returns
 unfolding numbers handAt
 returns c = c .hand-of .ensures
 
 pub in-hand-spec : {M : Type 1} → statement M
-in-hand-spec = tie.close (tie.spec hand-of-requires returns)
+in-hand-spec = tie.close (tie.spec (λ c κs. search needs) returns)

@@ -5,12 +5,9 @@ use Rattle.mail.specs.Moves.{isEmptyBox}
 use Rattle.mail.proofs.Mail.is_empty_box.Statement.{statement}
 use Rattle.mail.proofs.Mail.is_empty_box.Tie as tie
 
-is-empty-requires : tie.Need-is-empty-requires
-is-empty-requires c κs = search needs
-
 returns : tie.Need-returns
 unfolding numbers isEmptyBox
 returns c = c .is-empty .ensures .whole
 
 pub is-empty-box-spec : {M : Type 1} → statement M
-is-empty-box-spec = tie.close (tie.spec is-empty-requires returns)
+is-empty-box-spec = tie.close (tie.spec (λ c κs. search needs) returns)

@@ -6,12 +6,9 @@ use Rattle.mail.specs.Moves.{isFullBox}
 use Rattle.mail.proofs.Mail.is_full_box.Statement.{statement}
 use Rattle.mail.proofs.Mail.is_full_box.Tie as tie
 
-holds-at-least-requires : tie.Need-holds-at-least-requires
-holds-at-least-requires c κs = search needs
-
 returns : tie.Need-returns
 unfolding numbers isFullBox capacity
 returns c = c .holds-at-least .ensures .whole
 
 pub is-full-box-spec : {M : Type 1} → statement M
-is-full-box-spec = tie.close (tie.spec holds-at-least-requires returns)
+is-full-box-spec = tie.close (tie.spec (λ c κs. search needs) returns)

@@ -7,20 +7,11 @@ use Rattle.mail.specs.Moves.{lengthAt, lengthInHand}
 use Rattle.mail.proofs.Mail.length_in_hand.Statement.{statement}
 use Rattle.mail.proofs.Mail.length_in_hand.Tie as tie
 
-has-message-requires : tie.Need-has-message-requires
-has-message-requires c κs = search needs
-
 returns : tie.Need-returns
 unfolding lengthInHand
 returns c =
     let has = c .before .has-message in
     rw (sym (has .ensures) ∙ not-true (has .result) (c .if1 .taken))
-
-in-hand-requires : tie.Need-in-hand-requires
-in-hand-requires c κs = search needs
-
-length-of-requires : tie.Need-length-of-requires
-length-of-requires c κs = search needs
 
 returns-2 : tie.Need-returns-2
 unfolding numbers lengthInHand
@@ -31,4 +22,4 @@ returns-2 c =
     (c .length-of .ensures ∙ ap (lengthAt (numbers (test .before .before .args .self))) (c .before .in-hand .ensures))
 
 pub length-in-hand-spec : {M : Type 1} → statement M
-length-in-hand-spec = tie.close (tie.spec has-message-requires returns in-hand-requires length-of-requires returns-2)
+length-in-hand-spec = tie.close (tie.spec (λ c κs. search needs) returns (λ c κs. search needs) (λ c κs. search needs) returns-2)

@@ -5,12 +5,9 @@ use Rattle.mail.specs.Moves.{lowestFree}
 use Rattle.mail.proofs.Mail.lowest_free.Statement.{statement}
 use Rattle.mail.proofs.Mail.lowest_free.Tie as tie
 
-lowest-bit-requires : tie.Need-lowest-bit-requires
-lowest-bit-requires c κs = search needs
-
 returns : tie.Need-returns
 unfolding numbers lowestFree
 returns c = c .lowest-bit .ensures
 
 pub lowest-free-spec : {M : Type 1} → statement M
-lowest-free-spec = tie.close (tie.spec lowest-bit-requires returns)
+lowest-free-spec = tie.close (tie.spec (λ c κs. search needs) returns)

@@ -5,18 +5,9 @@ use Rattle.mail.specs.Moves.{freed}
 use Rattle.mail.proofs.Mail.set_free.Statement.{statement}
 use Rattle.mail.proofs.Mail.set_free.Tie as tie
 
-with-length-requires : tie.Need-with-length-requires
-with-length-requires c κs = search needs
-
-cast-with-bit : tie.Need-cast-with-bit
-cast-with-bit c = search needs
-
-with-bit-requires : tie.Need-with-bit-requires
-with-bit-requires c κs = search needs
-
 returns : tie.Need-returns
 unfolding numbers freed
 returns c = rw (c .before .before .with-length .ensures, c .with-bit .ensures)
 
 pub set-free-spec : {M : Type 1} → statement M
-set-free-spec = tie.close (tie.spec with-length-requires cast-with-bit with-bit-requires returns)
+set-free-spec = tie.close (tie.spec (λ c κs. search needs) (λ c. search needs) (λ c κs. search needs) returns)

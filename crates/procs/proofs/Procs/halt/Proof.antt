@@ -6,12 +6,6 @@ use Rattle.procs.proofs.Ways.{halt-runner, halt-other}
 use Rattle.procs.proofs.Procs.halt.Statement.{statement}
 use Rattle.procs.proofs.Procs.halt.Tie as tie
 
-remove-requires : tie.Need-remove-requires
-remove-requires c κs = search needs
-
-choose-requires : tie.Need-choose-requires
-choose-requires c κs = search needs
-
 returns : tie.Need-returns
 unfolding numbers
 returns c =
@@ -23,4 +17,4 @@ unfolding numbers
 returns-2 c = c .before .before .before .before .remove .ensures ∙ halt-other (numbers _) refl _ (c .if1 .left)
 
 pub halt-spec : {M : Type 1} → statement M
-halt-spec = tie.close (tie.spec remove-requires choose-requires returns returns-2)
+halt-spec = tie.close (tie.spec (λ c κs. search needs) (λ c κs. search needs) returns returns-2)

@@ -10,15 +10,9 @@ returns : tie.Need-returns
 unfolding numbers
 returns c = above-null (numbers _) refl _ (c .if1 .taken)
 
-entry-requires : tie.Need-entry-requires
-entry-requires c κs = search needs
-
-entry-requires-2 : tie.Need-entry-requires-2
-entry-requires-2 c κs = search needs
-
 returns-2 : tie.Need-returns-2
 unfolding numbers
 returns-2 c = above-other (numbers _) refl _ (c .before .entry .ensures) (c .entry2 .ensures) (c .before .before .before .if1 .left)
 
 pub is-above-spec : {M : Type 1} → statement M
-is-above-spec = tie.close (tie.spec returns entry-requires entry-requires-2 returns-2)
+is-above-spec = tie.close (tie.spec returns (λ c κs. search needs) (λ c κs. search needs) returns-2)

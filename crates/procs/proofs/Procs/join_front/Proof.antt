@@ -5,15 +5,9 @@ use Rattle.procs.specs.Moves.{fronted}
 use Rattle.procs.proofs.Procs.join_front.Statement.{statement}
 use Rattle.procs.proofs.Procs.join_front.Tie as tie
 
-join-front-requires : tie.Need-join-front-requires
-join-front-requires c κs = search needs
-
-requeue-requires : tie.Need-requeue-requires
-requeue-requires c κs = search needs
-
 returns : tie.Need-returns
 unfolding numbers fronted
 returns c = rw (c .requeue .ensures, c .before .join-front .ensures .whole)
 
 pub join-front-spec : {M : Type 1} → statement M
-join-front-spec = tie.close (tie.spec join-front-requires requeue-requires returns)
+join-front-spec = tie.close (tie.spec (λ c κs. search needs) (λ c κs. search needs) returns)

@@ -5,15 +5,9 @@ use Rattle.procs.specs.Moves.{gone}
 use Rattle.procs.proofs.Procs.leave.Statement.{statement}
 use Rattle.procs.proofs.Procs.leave.Tie as tie
 
-leave-requires : tie.Need-leave-requires
-leave-requires c κs = search needs
-
-requeue-requires : tie.Need-requeue-requires
-requeue-requires c κs = search needs
-
 returns : tie.Need-returns
 unfolding numbers gone
 returns c = rw (c .requeue .ensures, c .before .leave .ensures .whole)
 
 pub leave-spec : {M : Type 1} → statement M
-leave-spec = tie.close (tie.spec leave-requires requeue-requires returns)
+leave-spec = tie.close (tie.spec (λ c κs. search needs) (λ c κs. search needs) returns)

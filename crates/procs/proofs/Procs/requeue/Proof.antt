@@ -11,20 +11,11 @@ returns : tie.Need-returns
 unfolding numbers requeued
 returns c = rw (note-none _ _ _ (c .if1 .taken))
 
-is-empty-requires : tie.Need-is-empty-requires
-is-empty-requires c κs = search needs
-
-without-bit-requires : tie.Need-without-bit-requires
-without-bit-requires c κs = search needs
-
 returns-2 : tie.Need-returns-2
 unfolding numbers requeued
 returns-2 c =
     let empty = sym (c .before .if2 .taken) ∙ c .before .before .is-empty .ensures .whole in
     rw (c .without-bit .ensures, note-bit _ _ _ (c .before .before .before .if1 .left) empty)
-
-with-bit-requires : tie.Need-with-bit-requires
-with-bit-requires c κs = search needs
 
 returns-3 : tie.Need-returns-3
 unfolding numbers requeued
@@ -35,4 +26,4 @@ returns-3 c =
 pub requeue-spec : {M : Type 1} → statement M
 requeue-spec =
     tie.close
-    (tie.spec returns is-empty-requires without-bit-requires returns-2 with-bit-requires returns-3)
+    (tie.spec returns (λ c κs. search needs) (λ c κs. search needs) returns-2 (λ c κs. search needs) returns-3)

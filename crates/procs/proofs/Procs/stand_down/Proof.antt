@@ -10,18 +10,6 @@ returns : tie.Need-returns
 unfolding numbers
 returns c = down-null (numbers _) refl (c .if1 .taken)
 
-entry-requires : tie.Need-entry-requires
-entry-requires c κs = search needs
-
-cast-join-front : tie.Need-cast-join-front
-cast-join-front c = search needs
-
-join-front-requires : tie.Need-join-front-requires
-join-front-requires c κs = search needs
-
-run-requires : tie.Need-run-requires
-run-requires c κs = search needs
-
 returns-2 : tie.Need-returns-2
 unfolding numbers
 returns-2 c =
@@ -31,4 +19,4 @@ returns-2 c =
 pub stand-down-spec : {M : Type 1} → statement M
 stand-down-spec =
     tie.close
-    (tie.spec returns entry-requires cast-join-front join-front-requires run-requires returns-2)
+    (tie.spec returns (λ c κs. search needs) (λ c. search needs) (λ c κs. search needs) (λ c κs. search needs) returns-2)

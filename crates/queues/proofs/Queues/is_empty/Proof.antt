@@ -4,11 +4,8 @@ use Rattle.rings.proofs.Looks.{says-empty}
 use Rattle.queues.proofs.Queues.is_empty.Statement.{statement}
 use Rattle.queues.proofs.Queues.is_empty.Tie as tie
 
-first-requires : tie.Need-first-requires
-first-requires c κs = search needs
-
 returns : tie.Need-returns
 returns c = says-empty (c .before .first .ensures .whole)
 
 pub is-empty-spec : {M : Type 1} → statement M
-is-empty-spec = tie.close (tie.spec first-requires returns)
+is-empty-spec = tie.close (tie.spec (λ c κs. search needs) returns)

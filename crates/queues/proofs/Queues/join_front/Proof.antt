@@ -7,36 +7,6 @@ use Rattle.queues.specs.Queue.{num, tablesOf}
 use Rattle.queues.proofs.Queues.join_front.Statement.{statement}
 use Rattle.queues.proofs.Queues.join_front.Tie as tie
 
-cast-h : tie.Need-cast-h
-cast-h c = search needs
-
-add-h : tie.Need-add-h
-add-h c = search needs
-
-cast-i : tie.Need-cast-i
-cast-i c = search needs
-
-element-copy-out-first : tie.Need-element-copy-out-first
-element-copy-out-first c = search needs
-
-cast-f : tie.Need-cast-f
-cast-f c = search needs
-
-element-set-from-p : tie.Need-element-set-from-p
-element-set-from-p c = search needs
-
-element-set-from-first : tie.Need-element-set-from-first
-element-set-from-first c = search needs
-
-cast-t21 : tie.Need-cast-t21
-cast-t21 c = search needs
-
-element-set-from-self : tie.Need-element-set-from-self
-element-set-from-self c = search needs
-
-element-set-from-p-2 : tie.Need-element-set-from-p-2
-element-set-from-p-2 c = search needs
-
 returns : tie.Need-returns
 unfolding tablesOf
 returns c =
@@ -61,16 +31,16 @@ pub join-front-spec : {M : Type 1} → statement M
 join-front-spec =
     tie.close
     (tie.spec
-    cast-h
-    add-h
-    cast-i
-    element-copy-out-first
-    cast-f
-    element-set-from-p
-    element-set-from-first
-    cast-t21
-    element-set-from-self
-    element-set-from-p-2
+    (λ c. search needs)
+    (λ c. search needs)
+    (λ c. search needs)
+    (λ c. search needs)
+    (λ c. search needs)
+    (λ c. search needs)
+    (λ c. search needs)
+    (λ c. search needs)
+    (λ c. search needs)
+    (λ c. search needs)
     returns
     returns-2
     returns-3

@@ -7,36 +7,6 @@ use Rattle.queues.specs.Queue.{num, tablesOf}
 use Rattle.queues.proofs.Queues.join_rear.Statement.{statement}
 use Rattle.queues.proofs.Queues.join_rear.Tie as tie
 
-cast-h : tie.Need-cast-h
-cast-h c = search needs
-
-add-h : tie.Need-add-h
-add-h c = search needs
-
-cast-i : tie.Need-cast-i
-cast-i c = search needs
-
-element-copy-out-last : tie.Need-element-copy-out-last
-element-copy-out-last c = search needs
-
-cast-l : tie.Need-cast-l
-cast-l c = search needs
-
-element-set-from-p : tie.Need-element-set-from-p
-element-set-from-p c = search needs
-
-cast-t19 : tie.Need-cast-t19
-cast-t19 c = search needs
-
-element-set-from-self : tie.Need-element-set-from-self
-element-set-from-self c = search needs
-
-element-set-from-last : tie.Need-element-set-from-last
-element-set-from-last c = search needs
-
-element-set-from-p-2 : tie.Need-element-set-from-p-2
-element-set-from-p-2 c = search needs
-
 returns : tie.Need-returns
 unfolding tablesOf
 returns c =
@@ -61,16 +31,16 @@ pub join-rear-spec : {M : Type 1} → statement M
 join-rear-spec =
     tie.close
     (tie.spec
-    cast-h
-    add-h
-    cast-i
-    element-copy-out-last
-    cast-l
-    element-set-from-p
-    cast-t19
-    element-set-from-self
-    element-set-from-last
-    element-set-from-p-2
+    (λ c. search needs)
+    (λ c. search needs)
+    (λ c. search needs)
+    (λ c. search needs)
+    (λ c. search needs)
+    (λ c. search needs)
+    (λ c. search needs)
+    (λ c. search needs)
+    (λ c. search needs)
+    (λ c. search needs)
     returns
     returns-2
     returns-3

@@ -7,33 +7,6 @@ use Rattle.queues.specs.Queue.{num, tablesOf}
 use Rattle.queues.proofs.Queues.leave.Statement.{statement}
 use Rattle.queues.proofs.Queues.leave.Tie as tie
 
-cast-i : tie.Need-cast-i
-cast-i c = search needs
-
-element-copy-out-ahead : tie.Need-element-copy-out-ahead
-element-copy-out-ahead c = search needs
-
-element-copy-out-behind : tie.Need-element-copy-out-behind
-element-copy-out-behind c = search needs
-
-cast-a : tie.Need-cast-a
-cast-a c = search needs
-
-cast-b : tie.Need-cast-b
-cast-b c = search needs
-
-element-set-from-behind : tie.Need-element-set-from-behind
-element-set-from-behind c = search needs
-
-element-set-from-p : tie.Need-element-set-from-p
-element-set-from-p c = search needs
-
-element-set-from-ahead : tie.Need-element-set-from-ahead
-element-set-from-ahead c = search needs
-
-element-set-from-p-2 : tie.Need-element-set-from-p-2
-element-set-from-p-2 c = search needs
-
 returns : tie.Need-returns
 unfolding tablesOf
 returns c =
@@ -62,15 +35,15 @@ pub leave-spec : {M : Type 1} → statement M
 leave-spec =
     tie.close
     (tie.spec
-    cast-i
-    element-copy-out-ahead
-    element-copy-out-behind
-    cast-a
-    cast-b
-    element-set-from-behind
-    element-set-from-p
-    element-set-from-ahead
-    element-set-from-p-2
+    (λ c. search needs)
+    (λ c. search needs)
+    (λ c. search needs)
+    (λ c. search needs)
+    (λ c. search needs)
+    (λ c. search needs)
+    (λ c. search needs)
+    (λ c. search needs)
+    (λ c. search needs)
     returns
     returns-2
     returns-3

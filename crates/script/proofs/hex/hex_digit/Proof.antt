@@ -7,15 +7,6 @@ use borrow.Author.Needs.{needs}
 use Rattle.script.proofs.hex.hex_digit.Statement.{statement}
 use Rattle.script.proofs.hex.hex_digit.Tie as tie
 
-cast-d : tie.Need-cast-d
-cast-d c = search needs
-
-cast-d-2 : tie.Need-cast-d-2
-cast-d-2 c = search needs
-
-add-d : tie.Need-add-d
-add-d c = search needs
-
 returns : tie.Need-returns
 returns c = let x = c .before .before .args .x in simp (le-leb (code "0") x (omega arith), le-leb x (code "9") (omega arith))
 
@@ -33,4 +24,4 @@ returns-5 c = let x = c .before .before .before .before .args .x in simp (le-leb
 
 pub hex-digit-spec : {M : Type 1} → statement M
 hex-digit-spec =
-    tie.close (tie.spec cast-d cast-d-2 add-d returns returns-2 returns-3 returns-4 returns-5)
+    tie.close (tie.spec (λ c. search needs) (λ c. search needs) (λ c. search needs) returns returns-2 returns-3 returns-4 returns-5)

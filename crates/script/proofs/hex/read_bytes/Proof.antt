@@ -8,35 +8,14 @@ use Rattle.script.proofs.HexLaws.{bytes-dash, bytes-empty, bytes-few, b
 use Rattle.script.proofs.hex.read_bytes.Statement.{statement}
 use Rattle.script.proofs.hex.read_bytes.Tie as tie
 
-slice-aggregate-is-word : tie.Need-slice-aggregate-is-word
-slice-aggregate-is-word c = search needs
-
-is-word-requires : tie.Need-is-word-requires
-is-word-requires c κs = search needs
-
-no-bytes-requires : tie.Need-no-bytes-requires
-no-bytes-requires c κs = search needs
-
 returns : tie.Need-returns
 returns c = c .no-bytes .ensures ∙ sym (ap bytesOf (bytes-dash (c .before .before .before .before .before .args .w .now) (sym (c .before .before .is-word .ensures) ∙ c .before .if1 .taken)))
-
-no-bytes-requires-2 : tie.Need-no-bytes-requires-2
-no-bytes-requires-2 c κs = search needs
 
 returns-2 : tie.Need-returns-2
 returns-2 c = c .no-bytes2 .ensures ∙ sym (ap bytesOf (bytes-empty (c .before .before .before .before .before .before .args .w .now) (c .before .if2 .taken)))
 
-add-if3 : tie.Need-add-if3
-add-if3 c = search needs
-
-no-bytes-requires-3 : tie.Need-no-bytes-requires-3
-no-bytes-requires-3 c κs = search needs
-
 returns-3 : tie.Need-returns-3
 returns-3 c = c .no-bytes3 .ensures ∙ sym (ap bytesOf (bytes-many (c .before .before .before .before .before .before .before .args .w .now) (sym (c .before .before .before .before .is-word .ensures) ∙ c .before .before .before .if1 .left) (omega arith)))
-
-read-pairs-requires : tie.Need-read-pairs-requires
-read-pairs-requires c κs = search needs
 
 returns-4 : tie.Need-returns-4
 returns-4 c = c .read-pairs .ensures ∙ sym (ap bytesOf (bytes-few (c .before .before .before .before .before .before .before .args .w .now) (sym (c .before .before .before .before .is-word .ensures) ∙ c .before .before .before .if1 .left) (omega arith) (omega arith)))
@@ -45,14 +24,14 @@ pub read-bytes-spec : {M : Type 1} → statement M
 read-bytes-spec =
     tie.close
     (tie.spec
-    slice-aggregate-is-word
-    is-word-requires
-    no-bytes-requires
+    (λ c. search needs)
+    (λ c κs. search needs)
+    (λ c κs. search needs)
     returns
-    no-bytes-requires-2
+    (λ c κs. search needs)
     returns-2
-    add-if3
-    no-bytes-requires-3
+    (λ c. search needs)
+    (λ c κs. search needs)
     returns-3
-    read-pairs-requires
+    (λ c κs. search needs)
     returns-4)

@@ -22,18 +22,6 @@ abbrev μ-loop : tie.MeasureT-loop
 loop-holds : tie.Need-loop-holds Inv-loop μ-loop
 loop-holds c = filled-none (c .before .args .w .now)
 
-pair-at-requires : tie.Need-pair-at-requires Inv-loop μ-loop
-pair-at-requires c κs = search needs
-
-enum-known-b : tie.Need-enum-known-b Inv-loop μ-loop
-enum-known-b c = search needs
-
-enum-told : tie.Need-enum-told Inv-loop μ-loop
-enum-told c = search needs
-
-no-bytes-requires : tie.Need-no-bytes-requires Inv-loop μ-loop
-no-bytes-requires c κs = search needs
-
 returns : tie.Need-returns Inv-loop μ-loop
 returns c =
     let w = c .before .before .before .before .before .before .before .args .w .now in
@@ -50,23 +38,8 @@ found c = number-some (pairAt (ahead c)) (c .before .before .before .pair-at .en
 cast-bytes : tie.Need-cast-bytes Inv-loop μ-loop
 cast-bytes c = omega (arith, pair-low (ahead c) _ (found c))
 
-array-write-bytes : tie.Need-array-write-bytes Inv-loop μ-loop
-array-write-bytes c = search needs
-
-add-i : tie.Need-add-i Inv-loop μ-loop
-add-i c = search needs
-
-add-at : tie.Need-add-at Inv-loop μ-loop
-add-at c = search needs
-
-loop-less : tie.Need-loop-less Inv-loop μ-loop
-loop-less c = search needs
-
 loop-again : tie.Need-loop-again Inv-loop μ-loop
 loop-again c = let l = c .before .before .before .before .before .loop in filled-more (c .before .before .before .before .before .before .before .args .w .now) (l .bytes) (l .i) (l .at) (l .inv) _ (omega arith) (found c)
-
-cast-length : tie.Need-cast-length Inv-loop μ-loop
-cast-length c = search needs
 
 returns-2 : tie.Need-returns-2 Inv-loop μ-loop
 returns-2 c = let l = c .before .loop in filled-all (c .before .before .before .args .w .now) (l .bytes) (l .i) (l .at) (l .inv) (c .loop-test .left)
@@ -78,16 +51,16 @@ read-pairs-spec =
     Inv-loop
     μ-loop
     loop-holds
-    pair-at-requires
-    enum-known-b
-    enum-told
-    no-bytes-requires
+    (λ c κs. search needs)
+    (λ c. search needs)
+    (λ c. search needs)
+    (λ c κs. search needs)
     returns
     cast-bytes
-    array-write-bytes
-    add-i
-    add-at
-    loop-less
+    (λ c. search needs)
+    (λ c. search needs)
+    (λ c. search needs)
+    (λ c. search needs)
     loop-again
-    cast-length
+    (λ c. search needs)
     returns-2)

@@ -10,11 +10,8 @@ use Rattle.script.proofs.numbers.leading_zero.Tie as tie
 returns : tie.Need-returns
 returns c = sym (leading-short (c .before .args .w .now) (omega arith))
 
-shared-slice-read-result : tie.Need-shared-slice-read-result
-shared-slice-read-result c = search needs
-
 returns-2 : tie.Need-returns-2
 returns-2 c = sym (leading-first (c .before .before .args .w .now) (omega arith))
 
 pub leading-zero-spec : {M : Type 1} → statement M
-leading-zero-spec = tie.close (tie.spec returns shared-slice-read-result returns-2)
+leading-zero-spec = tie.close (tie.spec returns (λ c. search needs) returns-2)

@@ -20,35 +20,14 @@ abbrev μ-loop : tie.MeasureT-loop
 returns : tie.Need-returns Inv-loop μ-loop
 returns c = rw (number-empty (c .before .before .args .w .now) (c .if1 .taken))
 
-leading-zero-requires : tie.Need-leading-zero-requires Inv-loop μ-loop
-leading-zero-requires c κs = search needs
-
 returns-2 : tie.Need-returns-2 Inv-loop μ-loop
 returns-2 c = let w = c .before .before .before .before .args .w .now in rw (number-of w (omega arith), (sym (c .before .leading-zero .ensures) ∙ c .if2 .taken))
 
 loop-holds : tie.Need-loop-holds Inv-loop μ-loop
 loop-holds c = let w = c .before .before .before .before .args .w .now in (omega arith, omega arith, rw (number-of w (omega arith), (sym (c .before .leading-zero .ensures) ∙ c .if2 .left)))
 
-shared-slice-read-next-digit : tie.Need-shared-slice-read-next-digit Inv-loop μ-loop
-shared-slice-read-next-digit c = search needs
-
-next-digit-requires : tie.Need-next-digit-requires Inv-loop μ-loop
-next-digit-requires c κs = search needs
-
-enum-known-n : tie.Need-enum-known-n Inv-loop μ-loop
-enum-known-n c = search needs
-
-enum-told : tie.Need-enum-told Inv-loop μ-loop
-enum-told c = search needs
-
 returns-3 : tie.Need-returns-3 Inv-loop μ-loop
 returns-3 c = let l = c .before .before .before .before .before .loop in sym (ap numberOf (digit-bad (c .before .before .before .before .before .before .before .before .before .before .args .w .now) (l .v) (l .i) _ (c .before .before .before .before .loop-test .taken) (l .inv .2) (c .before .before .next-digit .ensures) (c .enum-told .given .1)))
-
-add-i : tie.Need-add-i Inv-loop μ-loop
-add-i c = search needs
-
-loop-less : tie.Need-loop-less Inv-loop μ-loop
-loop-less c = search needs
 
 loop-again : tie.Need-loop-again Inv-loop μ-loop
 loop-again c = let l = c .before .before .before .before .before .before .loop in let g = digit-good (c .before .before .before .before .before .before .before .before .before .before .before .args .w .now) (l .v) (l .i) _ (c .before .before .before .before .before .loop-test .taken) (l .inv .2) (c .before .before .before .next-digit .ensures) _ (c .before .n .given .1) in (omega arith, g .0, g .1)
@@ -63,15 +42,15 @@ read-number-spec =
     Inv-loop
     μ-loop
     returns
-    leading-zero-requires
+    (λ c κs. search needs)
     returns-2
     loop-holds
-    shared-slice-read-next-digit
-    next-digit-requires
-    enum-known-n
-    enum-told
+    (λ c. search needs)
+    (λ c κs. search needs)
+    (λ c. search needs)
+    (λ c. search needs)
     returns-3
-    add-i
-    loop-less
+    (λ c. search needs)
+    (λ c. search needs)
     loop-again
     returns-4)
