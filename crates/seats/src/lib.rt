@@ -10,7 +10,7 @@ ghost use Rattle.plain.specs.Sizes.{classes};
 ghost use Rattle.queues.specs.Queue.{num, tablesOf};
 ghost use Rattle.procs.specs.Stands.{numbers};
 ghost use Rattle.seats.specs.Seats.{Answer};
-ghost use Rattle.seats.specs.Fits.{Found, Block, Vacant, Seat, AllSeats, otherRunner, readyIn, Topmost, Fits};
+ghost use Rattle.seats.specs.Fits.{Found, Block, Bare, Asked, AllSeats, readyIn, Topmost, Fits};
 use procs::Procs;
 use queues::Queues;
 use queues::bytes_of;
@@ -22,8 +22,6 @@ use sizes::Pids;
 const CLASSES: u8 = sizes::CLASSES as u8;
 
 const NODES: usize = sizes::PROCESSES + sizes::QUEUES;
-
-const NOBODY: u8 = sizes::PROCESSES as u8;
 
 // Whether the links are rings, and in which queue each process then stands.
 fn places_of(queues: Queues) -> Places
@@ -58,14 +56,11 @@ fn block_fits(at: u8, class: u8, ticks: u8, slice: u8) -> bool
     ticks == slice
 }
 
-// Whether a process neither runs nor stands in a queue, and its block carries zeros.
-fn is_vacant(at: u8, runs: bool, class: u8, ticks: u8) -> bool
-    ensures { λ r. ⌜ Says r (Vacant at runs class ticks) ⌝ }
+// Whether a process stands in no queue, and its block carries zeros.
+fn is_vacant(at: u8, class: u8, ticks: u8) -> bool
+    ensures { λ r. ⌜ Says r (Bare at class ticks) ⌝ }
 {
     if at != 0 {
-        return false;
-    }
-    if runs {
         return false;
     }
     if class != 0 {
@@ -74,12 +69,12 @@ fn is_vacant(at: u8, runs: bool, class: u8, ticks: u8) -> bool
     ticks == 0
 }
 
-// Whether a process is in exactly one place, and its block is as that place asks.
+// Whether a process is in exactly one place, and its block is as that place asks. Of one that is unused it is not asked here whether it runs.
 fn seat_fits(at: u8, runs: bool, class: u8, ticks: u8, unused: bool, slice: u8) -> bool
-    ensures { λ r. ⌜ Says r (Seat slice at runs class ticks unused) ⌝ }
+    ensures { λ r. ⌜ Says r (Asked slice at runs class ticks unused) ⌝ }
 {
     if unused {
-        return is_vacant(at, runs, class, ticks);
+        return is_vacant(at, class, ticks);
     }
     if runs != (at == 0) {
         return false;
@@ -87,18 +82,7 @@ fn seat_fits(at: u8, runs: bool, class: u8, ticks: u8, unused: bool, slice: u8) 
     block_fits(at, class, ticks, slice)
 }
 
-// Who runs, or a number that is no process where 0 does.
-fn other_runner(running: u8) -> u8
-    ensures { λ r. ⌜ r ≡ otherRunner running ⌝ }
-{
-    if running != 0 {
-        return running;
-    }
-    NOBODY
-}
-
-// Whether every process has its seat; 0, whether it runs or not, has that of an unused one. All are asked, with no early exit: so compiled,
-// several at once.
+// Whether every process has its seat; 0 has that of an unused one. All are asked, with no early exit: so compiled, several at once.
 fn seats_fit(
     running: u8,
     at: [u8; PROCESSES],
@@ -112,13 +96,15 @@ fn seats_fit(
     if bits::has_bit(unused.0, 0) {
         return false;
     }
+    if bits::has_bit(unused.0, running as u32) {
+        return false;
+    }
     let vacant = bits::with_bit(unused.0, 0);
-    let runner = other_runner(running);
     let mut all = true;
     let mut p = 0;
     while p < PROCESSES {
         let bit = bits::has_bit(vacant, p as u32);
-        all = all & seat_fits(at[p], runner == p as u8, class[p], ticks[p], bit, slice);
+        all = all & seat_fits(at[p], running == p as u8, class[p], ticks[p], bit, slice);
         p += 1;
     }
     all
