@@ -36,22 +36,22 @@ module _ (n running : ℕ) (at class ticks : List ℕ) (unused : ℕ) where
   pub all-seats : bits unused 0 ≡ false → bits unused running ≡ false → ((i : ℕ) → i < processes → AskedOf i (vacant i)) → AllSeats n running at class ticks unused
   all-seats off used f = record {
     null-used = off;
-    null = let b = rw vacant-null at (f 0 (omega arith)) in record { away = b .away; rests = refl; no-class = b .no-class; no-ticks = b .no-ticks };
+    null = rw vacant-null at (f 0 (omega arith));
     others = λ p h u. seat p (bits unused p) refl (rw (vacant-other p u h) at (f p h));
   }
     where
       seat : (p : ℕ) (b : Bool) → bits unused p ≡ b → AskedOf p b → SeatOf p b
-      seat p true e b = record { away = b .away; rests = ne-eqb running p (λ r. true≢false (sym e ∙ (ap (bits unused) (sym r) ∙ used))); no-class = b .no-class; no-ticks = b .no-ticks }
+      seat p true e b = record { bare = b; rests = ne-eqb running p (λ r. true≢false (sym e ∙ (ap (bits unused) (sym r) ∙ used))) }
       seat p false e b = b
 
   pub each-asked : AllSeats n running at class ticks unused → (i : ℕ) → i < processes → AskedOf i (vacant i)
   each-asked s i h = ⊎-elim
-      (λ (e : i ≡ 0). rw (e, vacant-null) (record { away = s .null .away; no-class = s .null .no-class; no-ticks = s .null .no-ticks }))
+      (λ (e : i ≡ 0). rw (e, vacant-null) (s .null))
       (λ (e : i ≢ 0). rw (vacant-other i (omega arith) h) (asked (bits unused i) (s .others i h (omega arith))))
       (same? i 0)
     where
       asked : (b : Bool) → SeatOf i b → AskedOf i b
-      asked true v = record { away = v .away; no-class = v .no-class; no-ticks = v .no-ticks }
+      asked true v = v .bare
       asked false v = v
 
   pub runner-used : unused < 2 ^ width → AllSeats n running at class ticks unused → bits unused running ≡ false
