@@ -4,3 +4,4 @@ pub mod Runs
 pub mod Calls
 pub mod Listing
 pub mod Sound
+pub mod Why
