@@ -68,20 +68,27 @@ impl Kernel {
         Done { state, answer }
     }
 
-    // The state with what refused the call; code 14 comes with running 0.
-    fn refuse(self, v: Verdict) -> Done
-        ensures { λ r. ⌜ r ≡ refusedWith self v ⌝ }
+    // A verdict with the process that runs; code 14 comes with running 0.
+    pub fn answer_to(self, v: Verdict) -> Answer
+        ensures { λ r. ⌜ r ≡ refusedWith self v .answer ⌝ }
     {
         let mut running = self.runner();
         if v.code == 14 {
             running = 0;
         }
-        let state = self;
-        let answer = Answer {
+        Answer {
             code: v.code,
             number: v.number,
             running,
-        };
+        }
+    }
+
+    // The state with what refused the call.
+    fn refuse(self, v: Verdict) -> Done
+        ensures { λ r. ⌜ r ≡ refusedWith self v ⌝ }
+    {
+        let answer = self.answer_to(v);
+        let state = self;
         Done { state, answer }
     }
 

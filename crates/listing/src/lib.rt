@@ -1,6 +1,6 @@
 // The listing: one row per process, written into a table of rows that is lent.
 ghost use mathlib.Core.Path.{_≡_};
-ghost use Rattle.kernel.specs.Judged.{Judged, refusedWith};
+ghost use Rattle.kernel.specs.Judged.{Judged};
 ghost use Rattle.listing.specs.Allowed.{refusals, allowed};
 ghost use Rattle.listing.specs.Listed.{Lists};
 use kernel::Answer;
@@ -27,23 +27,6 @@ fn count(v: Verdict) -> u32
     0
 }
 
-// The verdict with the process that runs; code 14 comes with running 0.
-fn answer(k: Kernel, v: Verdict) -> Answer
-    ensures { λ r. ⌜ r ≡ refusedWith k v .answer ⌝ }
-{
-    let p = k.procs;
-    let runner = p.running;
-    let mut running = runner.0 as u32;
-    if v.code == 14 {
-        running = 0;
-    }
-    Answer {
-        code: v.code,
-        number: v.number,
-        running,
-    }
-}
-
 // Row i of the table becomes the row of process i; later rows stay, and all do where the listing is refused.
 #[no_mangle]
 pub extern "C" fn csengadrul_listing(state: &[u8], rows: &mut [Row]) -> Answer
@@ -57,5 +40,5 @@ pub extern "C" fn csengadrul_listing(state: &[u8], rows: &mut [Row]) -> Answer
         rows[i as usize] = rows::row_of(k, i);
         i += 1;
     }
-    answer(k, v)
+    k.answer_to(v)
 }

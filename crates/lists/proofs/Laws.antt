@@ -9,7 +9,7 @@ use native.Mathlib.Omega.{arith}
 use lib.ListN.{length, getD, replicate}
 use lib.Dec.{leb, eqb}
 use borrow.Author.Tests.{leb-true, leb-false, eqb-true, eqb-false, eq-eqb, ne-eqb}
-use Rattle.lists.specs.Lists.{if_then_else_, put, one, total, occurs, without, lowest}
+use Rattle.lists.specs.Lists.{if_then_else_, put, one, total, occurs, without, ahead, lowest}
 
 -- a test has two outcomes, and each is known as an equation
 pub either : (t : Bool) → (t ≡ true) ⊎ (t ≡ false)
@@ -183,6 +183,19 @@ total-change (suc n) f g i h k =
     ⊎-elim (λ e. let same : total n g ≡ total n f = total-same n g f (λ j b. k j (omega arith)) in rw e (omega arith))
     (λ d. omega (arith, k n (λ b. d (sym b)), total-change n f g i (omega arith) k)) (same? i n)
 
+-- ---- how long a list can be
+
+length-total : (n : ℕ) (l : List ℕ) → ((x : ℕ) → 1 ≤ occurs x l → x < n) → total n (λ p. occurs p l) ≡ length l
+length-total n [] b = total-zero n (λ p. 0) (λ i h. refl)
+length-total n (x ∷ l) b =
+    let low : x < n = b x (omega (arith, one-same x)) in
+    let more = total-change n (λ p. occurs p l) (λ p. occurs p (x ∷ l)) x low (λ j d. omega (arith, one-other x j (λ e. d (sym e)))) in
+    omega (arith, length-total n l (λ y o. b y (omega arith)), one-same x)
+
+-- a list of numbers below n none of which stands in it twice has at most n
+pub at-most : (n : ℕ) (l : List ℕ) → ((x : ℕ) → 1 ≤ occurs x l → x < n) → ((x : ℕ) → occurs x l ≤ 1) → length l ≤ n
+at-most n l b once = omega (arith, length-total n l b, total-ones n (λ p. occurs p l) once)
+
 -- ---- who is taken out of a list
 
 pub without-absent : (p : ℕ) (l : List ℕ) → occurs p l ≡ 0 → without p l ≡ l
@@ -211,6 +224,14 @@ stands p (x ∷ l) o = ⊎-elim
     (λ (d : x ≢ p).
     let r = stands p l (omega (arith, one-other x p d)) in
     record { before = x ∷ r .before; behind = r .behind; whole = ap (λ (y : List ℕ). x ∷ y) (r .whole); first-there = omega (arith, r .first-there, one-other x p d) })
+    (same? x p)
+
+-- as many are ahead of p as stand before it
+pub ahead-split : (p : ℕ) (l r : List ℕ) → occurs p l ≡ 0 → ahead p (l ++ p ∷ r) ≡ length l
+ahead-split p [] r n = rw (eq-eqb p p refl)
+ahead-split p (x ∷ l) r n = ⊎-elim
+    (λ (e : x ≡ p). absurd (omega (arith, n, subst (λ (y : ℕ). one y p ≡ 1) (sym e) (one-same p))))
+    (λ (d : x ≢ p). rw (ne-eqb x p d) (ap suc (ahead-split p l r (omega (arith, n)))))
     (same? x p)
 
 -- p, who stands in queue q and nowhere else, is taken out of q, and no other queue changes

@@ -10,5 +10,6 @@ pub mod Sound
 pub mod Messages
 pub mod Ahead
 pub mod Fair
+pub mod Why
 pub mod Theorems
 pub mod Examples

@@ -10,11 +10,12 @@ use Rattle.plain.specs.Sizes.{slice}
 use Rattle.plain.specs.State.{Settings, start, spots, freeProcess}
 use Rattle.plain.specs.Runs.{join, standDown, makeReady}
 use Rattle.plain.specs.Calls.{Call, Answer, create, perform, refusals, step, answers, after}
-use Rattle.plain_laws.specs.Theorems.{Soundness, Refusals, Messages, Fairness, Kernel, replies, AnswersAsPlain, UselessShutOut}
+use Rattle.plain_laws.specs.Theorems.{Soundness, Refusals, Messages, Fairness, Kernel, replies, AnswersAsPlain, UselessShutOut, OneReason}
 use Rattle.plain_laws.proofs.Sound.{usual-set, start-sound, step-sound, after-sound}
 use Rattle.plain_laws.proofs.Refusals.{given, only, unchanged, settings-stay, in-order}
 use Rattle.plain_laws.proofs.Messages.{counted-from-start}
 use Rattle.plain_laws.proofs.Fair.{fair}
+use Rattle.plain_laws.proofs.Why as Why
 
 pub soundness : Soundness
 soundness = record { usual-set = usual-set; at-first = start-sound; kept = λ s c k. step-sound s k c; always = λ x cs z. after-sound (start x) cs (start-sound x z); settings-stay = settings-stay }
@@ -61,3 +62,6 @@ useless-shut-out = record {
   never-moves = λ x K r h. apart (K .reply (K .start) (create 2) .0 .number) (K .reply (K .next (K .start) (create 2)) (create 2) .0 .number) (numbered x K h)
       (ap (λ (s : K .Memory). K .reply s (create 2) .0 .number) (sym (r (K .start) (create 2))));
 }
+
+pub one-reason : OneReason
+one-reason = record { holds = λ s p S h. Why.holds s S p; only = λ s p r S h w. Why.only s S p r w; told-apart = Why.told-apart }

@@ -1,6 +1,6 @@
 -- The theorems about the plain kernel, as statements. Each is proved under its own name in proofs/Theorems.antt.
 -- Assumes nothing.
-use Prim.Native.Nat.{ℕ, _+_, _*_, _≤_}
+use Prim.Native.Nat.{ℕ, _+_, _*_, _≤_, _<_}
 use mathlib.Core.Path.{_≡_}
 use mathlib.Core.Bool.{true, false}
 use mathlib.Core.List.{List, [], _∷_, _++_}
@@ -8,7 +8,9 @@ use lib.ListN.{length}
 use Rattle.lists.specs.Lists.{occurs}
 use Rattle.plain.specs.State.{Settings, State, start, usual, level}
 use Rattle.plain.specs.Calls.{Call, Answer, Refusal, refusals, refused, step, answers, after}
+use Rattle.plain.specs.Sizes.{processes}
 use Rattle.plain.specs.Sound.{Set, Sound}
+use Rattle.plain.specs.Why.{Reason, Says, reason, numbers}
 use Rattle.plain_laws.specs.History.{First, codes, inOrder, order, isRefusal, sent, gone, Ready, isAhead, countAhead, ticksSeen, turnsBefore}
 
 -- 1. A fresh state is sound with any settings x that may be set, the usual ones among them; every call keeps that, and so every state that calls lead to from fresh is sound. No call changes the settings.
@@ -62,3 +64,9 @@ pub record UselessShutOut : Type 1 where
   pub refuses-all : (x : Settings) (K : Kernel) → ((s : K .Memory) (c : Call) → isRefusal (K .reply s c .0) ≡ true) → AnswersAsPlain x K → ⊥
   pub constant : (x : Settings) (K : Kernel) (a : Answer × List ℕ) → ((s : K .Memory) (c : Call) → K .reply s c ≡ a) → AnswersAsPlain x K → ⊥
   pub never-moves : (x : Settings) (K : Kernel) → ((s : K .Memory) (c : Call) → K .next s c ≡ s) → AnswersAsPlain x K → ⊥
+
+-- 6. "each process of each sound state has exactly one true reason, its numbers right": the one that is given. In numbers no two are the same.
+pub record OneReason : Type 0 where
+  pub holds : (s : State) (p : ℕ) → Sound s → p < processes → Says (s .procs) p (reason s p)
+  pub only : (s : State) (p : ℕ) (r : Reason) → Sound s → p < processes → Says (s .procs) p r → r ≡ reason s p
+  pub told-apart : (r r′ : Reason) → numbers r ≡ numbers r′ → r ≡ r′

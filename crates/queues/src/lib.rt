@@ -6,11 +6,13 @@ ghost use Rattle.rings.specs.Moves.{MadeFresh, JoinedRear, JoinedFront, HasLeft
 ghost use Rattle.queues.specs.Queue.{processes, queues, num, tablesOf};
 use sizes::Pid;
 
-const PROCESSES: u8 = sizes::PROCESSES as u8;
+pub mod back;
+
+pub(crate) const PROCESSES: u8 = sizes::PROCESSES as u8;
 
 const QUEUES: u32 = sizes::QUEUES as u32;
 
-const NODES: usize = sizes::PROCESSES + sizes::QUEUES;
+pub(crate) const NODES: usize = sizes::PROCESSES + sizes::QUEUES;
 
 // The node after each node, and the node before it: a node is a process, or the head of queue q, at PROCESSES + q. A process in no queue is linked to itself.
 pub struct Queues {

@@ -1,14 +1,43 @@
-// Why a process waits: one reason, by value, and its numbers for the world outside.
+// Why a process waits: the one reason that is true of it, by value, and its numbers for the world outside.
+// Any struct is answered for: one that is not sound with 14.
 ghost use mathlib.Core.Path.{_≡_};
-ghost use Rattle.reasons.specs.Reasons.{counted};
+ghost use Prim.Native.Nat.{suc, _≤_};
+ghost use Rattle.lists.specs.Lists.{if_then_else_};
+ghost use Rattle.plain.specs.Sizes.{processes};
+ghost use Rattle.plain.specs.Why as Plain;
+ghost use Rattle.procs.specs.Stands as Stands;
+ghost use Rattle.kernel.specs.Judged.{Judged};
+ghost use Rattle.reasons.specs.Reasons.{meant, given, Explains, runner, reasonAt, refusals};
+use kernel::Answer;
+use kernel::Kernel;
+use procs::Procs;
+use procs::entry;
+use queues::back::standing_of;
+use sizes::Pid;
+use verdicts::Verdict;
+
+const AT_MAILBOXES: u8 = sizes::AT_MAILBOXES as u8;
+
+const AT_SEMAPHORES: u8 = sizes::AT_SEMAPHORES as u8;
+
+const QUEUES: u8 = sizes::QUEUES as u8;
 
 pub enum Reason {
     Unused,
     Running,
+    // Behind so many of its class, the one that runs among them.
     Ready(u8),
+    // At that mailbox or semaphore, with so many ahead.
     Mailbox(u8, u8),
     Semaphore(u8, u8),
+    // Ready while that process runs.
     Behind(u8),
+}
+
+// A reason beside the answer. Where the question is refused it is Unused, whose numbers are zeros.
+pub struct Explained {
+    pub answer: Answer,
+    pub reason: Reason,
 }
 
 // Which kind of reason, which mailbox, semaphore or process, and how many are ahead.
@@ -19,7 +48,7 @@ pub struct Numbers {
 }
 
 fn numbered(kind: u32, which: u8, ahead: u8) -> Numbers
-    ensures { λ r. ⌜ r ≡ record { kind = kind; which = which; ahead = ahead } ⌝ }
+    ensures { λ r. ⌜ r ≡ given (Plain.numbered kind which ahead) ⌝ }
 {
     Numbers {
         kind,
@@ -29,7 +58,7 @@ fn numbered(kind: u32, which: u8, ahead: u8) -> Numbers
 }
 
 pub fn in_numbers(reason: Reason) -> Numbers
-    ensures { λ r. ⌜ r ≡ counted reason ⌝ }
+    ensures { λ r. ⌜ r ≡ given (Plain.numbers (meant reason)) ⌝ }
 {
     match reason {
         Reason::Unused => numbered(0, 0, 0),
@@ -39,4 +68,75 @@ pub fn in_numbers(reason: Reason) -> Numbers
         Reason::Semaphore(x, n) => numbered(4, x, n),
         Reason::Behind(q) => numbered(5, q, 0),
     }
+}
+
+// Ready in class c with so many ahead in the queue, while a process of that class runs.
+fn ready(running: Pid, class: u8, c: u8, ahead: u8) -> Reason
+    requires { ⌜ ahead ≤ processes ⌝ }
+    ensures { λ r. ⌜ meant r ≡ (if Plain.isRunnerOf (runner (running .0) class) c then Plain.ready (suc ahead) else Plain.behind (running .0)) ⌝ }
+{
+    if running.0 == 0 {
+        return Reason::Behind(running.0);
+    }
+    if class != c {
+        return Reason::Behind(running.0);
+    }
+    Reason::Ready(ahead + 1)
+}
+
+// In queue q with so many ahead, while a process of that class runs.
+fn reason_in(running: Pid, class: u8, q: u8, ahead: u8) -> Reason
+    requires { ⌜ ahead ≤ processes ⌝ }
+    ensures { λ r. ⌜ meant r ≡ Plain.reasonIn (runner (running .0) class) q ahead ⌝ }
+{
+    if q < AT_MAILBOXES {
+        return ready(running, class, q, ahead);
+    }
+    if q < AT_SEMAPHORES {
+        return Reason::Mailbox(q - AT_MAILBOXES, ahead);
+    }
+    if q < QUEUES {
+        return Reason::Semaphore(q - AT_SEMAPHORES, ahead);
+    }
+    Reason::Unused
+}
+
+fn reason_of(k: Procs, p: Pid) -> Reason
+    ensures { λ r. ⌜ meant r ≡ reasonAt (Stands.numbers k) (p .0) ⌝ }
+{
+    let running = k.running;
+    if p.0 == running.0 {
+        return Reason::Running;
+    }
+    if p.0 == 0 {
+        return Reason::Behind(running.0);
+    }
+    let class = k.class;
+    let queues = k.queues;
+    let prev = queues.prev;
+    let at = standing_of(prev, p);
+    reason_in(running, entry(class, running), at.queue, at.ahead)
+}
+
+fn judge(k: Kernel, p: u32) -> Verdict
+    ensures { λ r. ⌜ Judged (refusals p) k r ⌝ }
+{
+    verdicts::on_why(k.is_sound(), p)
+}
+
+// Why process p waits.
+pub fn why(k: Kernel, p: u32) -> Explained
+    ensures { λ r. ⌜ Explains k p r ⌝ }
+{
+    let v = judge(k, p);
+    let answer = k.answer_to(v);
+    if v.code != 0 {
+        return Explained {
+            answer,
+            reason: Reason::Unused,
+        };
+    }
+    let procs = k.procs;
+    let reason = reason_of(procs, Pid(p as u8));
+    Explained { answer, reason }
 }

@@ -11,14 +11,17 @@ use mir.Syntax.{w16}
 use mir.Val.{Fits}
 use borrow.Author.Tests.{eq-eqb, ne-eqb, lt-ltb, le-ltb}
 use Rattle.bits.specs.Word.{bit}
-use Rattle.lists.specs.Lists.{if_then_else_, occurs, ahead}
-use Rattle.lists.proofs.Laws.{same?, le?, lowest-is, lowest-none}
-use Rattle.rings.specs.Ring.{Absent, prevAt}
-use Rattle.rings.proofs.Laws.{in-range, placed, one-queue}
+use Rattle.lists.specs.Lists.{if_then_else_, ahead}
+use Rattle.lists.proofs.Laws.{same?}
+use Rattle.rings.proofs.Laws.{placed, elsewhere}
+use Rattle.queues.proofs.Ways.{standing-in, standing-nowhere}
+use Rattle.queues.specs.Ways.{standing}
+use Rattle.queues.specs.declared.back.Standing.{Standing}
 use Rattle.plain.specs.Calls.{isEmpty}
 use Rattle.plain.specs.Listing as Plain
 use Rattle.plain.specs.Listing.{queueOf}
 use Rattle.plain.specs.Sizes.{processes, classes, mailboxes, queues}
+use Rattle.plain_laws.proofs.Why.{queue-is, queue-none}
 use Rattle.plain.specs.State.{State}
 use Rattle.procs.specs.Stands as Stands
 use Rattle.mail.specs.Carries as Carries
@@ -26,11 +29,10 @@ use Rattle.mail.specs.Moves.{hasMessage, handAt, lengthAt, lengthInHand}
 use Rattle.mail.proofs.Looks.{has-message, length-in-hand}
 use Rattle.kernel.specs.Holds.{Holds}
 use Rattle.kernel.specs.declared.Kernel.{Kernel}
-use Rattle.rows.specs.Places.{back, spot, nowhere, spotIn, spotAt, spotOf}
+use Rattle.rows.specs.Places.{spot, nowhere, spotIn, spotOf}
 use Rattle.rows.specs.Rows.{rowWith, rowIn, shown, Shows}
 use Rattle.rows.specs.declared.Row.{Row}
 use Rattle.rows.specs.declared.Spot.{Spot}
-use Rattle.rows.proofs.Back.{back-to-head, back-alone}
 
 -- a length that is read fits where the lengths do
 pub length-fits : (k : Carries.Numbers) (p : ℕ) → ((i : ℕ) → Fits w16 (getD (k .length) i 0)) → Fits w16 (lengthInHand k p)
@@ -56,18 +58,6 @@ module _ {k : Kernel} {s : State} (H : Holds k s) (p : ℕ) where
       let n = length-in-hand (H .mail) p in
       λ i. record { place = x .place; which = x .which; position = x .position; class = c i; ticks = t i; full = f i; length = n i }
 
-  -- ---- the queue in which p stands
-
-  queue-is : (q : ℕ) → 1 ≤ occurs p (s .procs .queue q) → queueOf s p ≡ q
-  unfolding queueOf
-  queue-is q o =
-      lowest-is 0 queues q (λ i. ltb 0 (occurs p (s .procs .queue i))) (omega arith) (in-range (H .procs .stands .queues) q p o) (lt-ltb 0 (occurs p (s .procs .queue q)) o)
-      (λ j a b. le-ltb 0 (occurs p (s .procs .queue j)) (⊎-elim (λ u. absurd (omega (arith, one-queue (H .procs .stands .queues) j q p u o))) (λ u. omega arith) (le? 1 (occurs p (s .procs .queue j)))))
-
-  queue-none : Absent p (s .procs .queue) → queueOf s p ≡ queues
-  unfolding queueOf
-  queue-none a = lowest-none 0 queues (λ i. ltb 0 (occurs p (s .procs .queue i))) (λ j x y. rw (a j))
-
   -- ---- the row by the place
 
   in-is : (q : ℕ) → rowWith k p (spotIn q (ahead p (s .procs .queue q))) ≡ shown (Plain.rowIn s p q)
@@ -89,16 +79,17 @@ module _ {k : Kernel} {s : State} (H : Holds k s) (p : ℕ) where
       go false false true = refl
       go false false false = refl
 
+  none-is : (n : ℕ) → rowWith k p (spotIn queues n) ≡ shown (Plain.rowIn s p queues)
+  unfolding spotIn
+  none-is n = with-is nowhere
+
   -- who does not run stands in a queue or nowhere
-  resting : p < processes → rowWith k p (spotAt (back (Stands.numbers (k .procs) .tables .prev) processes (prevAt (Stands.numbers (k .procs) .tables) p) 0)) ≡ shown (Plain.rowIn s p (queueOf s p))
-  unfolding spotAt
-  resting h = ⊎-elim
-      (λ w. rw (back-to-head (H .procs .stands .queues) p (w .0) (w .2), queue-is (w .0) (w .2)) (at-head (w .0)))
-      (λ a. rw (queue-none a, back-alone (H .procs .stands .queues) p a h, lt-ltb p processes h) (with-is nowhere))
-      (placed (H .procs .stands .queues) p)
-    where
-      at-head : (q : ℕ) → rowWith k p (spotAt (record { node = processes + q; passed = ahead p (s .procs .queue q) })) ≡ shown (Plain.rowIn s p q)
-      at-head q = let e : processes + q - processes ≡ q = omega arith in rw (le-ltb (processes + q) processes (omega arith), e) (in-is q)
+  resting : p < processes → (let at : Standing = standing (Stands.numbers (k .procs) .tables .prev) p in rowWith k p (spotIn (at .queue) (at .ahead))) ≡ shown (Plain.rowIn s p (queueOf s p))
+  resting h =
+      let R = H .procs .stands .queues in ⊎-elim
+      (λ w. rw (standing-in R p (w .0) (w .2), queue-is s p (w .0) (w .1) (w .2) (λ j d. elsewhere R j (w .0) p (w .2) d)) (in-is (w .0)))
+      (λ a. rw (queue-none s p a, standing-nowhere R p a h) (none-is _))
+      (placed R p)
 
 module _ {k : Kernel} {s : State} (H : Holds k s) where
   runner : k .procs .running .0 ≡ s .procs .running

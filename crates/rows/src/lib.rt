@@ -1,20 +1,17 @@
 // The row of a process in a listing, by value.
-// Any struct has rows: the links are followed for as many steps as there are processes, wherever they lead.
+// Any struct has rows, wherever its links lead.
 ghost use mathlib.Core.Path.{_≡_};
-ghost use mathlib.Core.List.{map};
-ghost use lib.ListN.{getD};
 ghost use Rattle.bits.specs.Word.{bit};
-ghost use Rattle.queues.specs.Queue.{num};
 ghost use Rattle.procs.specs.Stands as Stands;
 ghost use Rattle.mail.specs.Carries as Carries;
 ghost use Rattle.mail.specs.Moves.{lengthInHand};
-ghost use Rattle.plain.specs.Sizes.{processes};
-ghost use Rattle.rows.specs.Places.{back, nowhere, spotIn, spotAt, spotOf};
+ghost use Rattle.rows.specs.Places.{nowhere, spotIn, spotOf};
 ghost use Rattle.rows.specs.Rows.{bare, rowWith, Shows};
 use kernel::Kernel;
 use mail::Mail;
 use procs::Procs;
 use procs::entry;
+use queues::back::standing_of;
 use sizes::Pid;
 
 const PROCESSES: u8 = sizes::PROCESSES as u8;
@@ -24,8 +21,6 @@ const AT_MAILBOXES: u8 = sizes::AT_MAILBOXES as u8;
 const AT_SEMAPHORES: u8 = sizes::AT_SEMAPHORES as u8;
 
 const QUEUES: u8 = sizes::QUEUES as u8;
-
-const NODES: usize = sizes::PROCESSES + sizes::QUEUES;
 
 // The places of a row.
 const UNUSED: u8 = 0;
@@ -51,47 +46,11 @@ pub struct Row {
     pub length: u16,
 }
 
-// Where a way back ends, and how many processes it passed.
-struct Way {
-    node: u8,
-    passed: u8,
-}
-
 // The first three columns of a row.
 struct Spot {
     place: u8,
     which: u8,
     position: u8,
-}
-
-// The node before another; 0 past the last node.
-fn node_before(prev: [Pid; NODES], p: Pid) -> u8
-    ensures { λ r. ⌜ r ≡ getD (map num prev) (p .0) 0 ⌝ }
-{
-    let i = p.0 as usize;
-    if NODES <= i {
-        return 0;
-    }
-    let x = prev[i];
-    x.0
-}
-
-// Back along the links from p, until a node is no process.
-fn walk_back(prev: [Pid; NODES], p: Pid) -> Way
-    ensures { λ r. ⌜ r ≡ back (map num prev) processes (getD (map num prev) (p .0) 0) 0 ⌝ }
-{
-    let mut node = node_before(prev, p);
-    let mut passed: u8 = 0;
-    while passed < PROCESSES {
-        if PROCESSES <= node {
-            return Way { node, passed };
-        }
-        let i = node as usize;
-        let x = prev[i];
-        node = x.0;
-        passed += 1;
-    }
-    Way { node, passed }
 }
 
 fn nowhere() -> Spot
@@ -132,16 +91,6 @@ fn spot_in(q: u8, position: u8) -> Spot
     nowhere()
 }
 
-// A way that ends at PROCESSES + q ends at the head of queue q.
-fn spot_at(w: Way) -> Spot
-    ensures { λ r. ⌜ r ≡ spotAt w ⌝ }
-{
-    if w.node < PROCESSES {
-        return nowhere();
-    }
-    spot_in(w.node - PROCESSES, w.passed)
-}
-
 // Where p stands, if it is not 0.
 fn spot_of(k: Procs, p: Pid) -> Spot
     ensures { λ r. ⌜ r ≡ spotOf (Stands.numbers k) (p .0) ⌝ }
@@ -157,7 +106,8 @@ fn spot_of(k: Procs, p: Pid) -> Spot
     }
     let queues = k.queues;
     let prev = queues.prev;
-    spot_at(walk_back(prev, p))
+    let at = standing_of(prev, p);
+    spot_in(at.queue, at.ahead)
 }
 
 fn bit(full: bool) -> u8

@@ -5,6 +5,7 @@ ghost use mathlib.Core.Path.{_≡_};
 ghost use lib.Dec.{eqb, leb, ltb};
 ghost use Rattle.plain.specs.Calls.{on, noClass, noMailbox, noSemaphore};
 ghost use Rattle.plain.specs.Listing.{fewRows};
+ghost use Rattle.plain.specs.Why.{noSuch};
 ghost use Rattle.plain.specs.Sizes.{processes, buffers, longest, highestCount, storeSize};
 ghost use Rattle.verdicts.specs.Chain.{orElse, found};
 use sizes::Pid;
@@ -154,4 +155,12 @@ pub fn on_listing(sound: bool, rows: usize) -> Verdict
     let v = Verdict { code: 0, number: 0 };
     v.or(!sound, 14)
         .or_with(rows < sizes::PROCESSES, 9, PROCESSES)
+}
+
+// Why process p waits may be asked of each process, also of 0 and of one that is unused.
+pub fn on_why(sound: bool, p: u32) -> Verdict
+    ensures { λ r. ⌜ r ≡ found (on 14 (not sound) ∷ noSuch p ∷ []) ⌝ }
+{
+    let v = Verdict { code: 0, number: 0 };
+    v.or(!sound, 14).or(PROCESSES <= p, 1)
 }

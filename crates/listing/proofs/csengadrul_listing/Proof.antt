@@ -83,10 +83,10 @@ use Rattle.listing.proofs.count as count
 use Rattle.listing.proofs.count.Symbol as count-def
 use Rattle.listing.proofs.count.Symbol.{name as #listing·count}
 use Rattle.listing.proofs.count.Met as count-thm
-use Rattle.listing.proofs.answer as answer
-use Rattle.listing.proofs.answer.Symbol as answer-def
-use Rattle.listing.proofs.answer.Symbol.{name as #listing·answer}
-use Rattle.listing.proofs.answer.Met as answer-thm
+use Rattle.kernel.proofs.Kernel.answer_to as answer
+use Rattle.kernel.proofs.Kernel.answer_to.Symbol as answer-def
+use Rattle.kernel.proofs.Kernel.answer_to.Symbol.{name as #kernel·answer-to}
+use Rattle.kernel.proofs.Kernel.answer_to.Met as answer-thm
 use Rattle.listing.proofs.csengadrul_listing.Key.{name as #listing·csengadrul-listing}
 use Rattle.listing.proofs.csengadrul_listing as f
 use Rattle.listing.proofs.csengadrul_listing.Statement as stated
@@ -120,7 +120,7 @@ more =
     (assign (place 6 []) (op2 (add unsigned) (copy (place 6 [])) (int w32 1)))))))
 
 abbrev afterwards : Body
-afterwards = seq (call #listing·answer (copy (place 3 []) ∷ copy (place 4 []) ∷ []) (place 0 [])) return
+afterwards = seq (call #kernel·answer-to (copy (place 3 []) ∷ copy (place 4 []) ∷ []) (place 0 [])) return
 
 -- numbers
 fits-wide : (i n : ℕ) → i < n → n * width < 2 ^ 63 → i * width < 2 ^ 64
@@ -167,7 +167,7 @@ module _ {M : Type 1} (𝓤 : URA M) (H : Heap 𝓤) (A : Atoms 𝓤) (mem : Mem
     judge : Triple 𝓤 (C #listing·judge) JudgeC
     count : Triple 𝓤 (C #listing·count) CountC
     row : Triple 𝓤 (C #rows·row-of) RowC
-    answer : Triple 𝓤 (C #listing·answer) AnswerC
+    answer : Triple 𝓤 (C #kernel·answer-to) AnswerC
 
 -- Lent are the state's area a at the lifetime κ, and the rows ys at κ′, which lie at (b, o).
 module _ {M : Type 1} (𝓤 : URA M) (H : Heap 𝓤) (A : Atoms 𝓤) (W : Given 𝓤 H A) (mem : Memory → SProp 𝓤) (run : Routine → Fun 𝓤) (κ κ′ : Lft) (q q′ : Share) (a : RefT (List ℕ)) (b o : ℕ) (γ : GName) (ys : List Row) (gn : Room T.the-row (length ys)) where
@@ -395,5 +395,5 @@ csengadrul-listing-spec 𝓤 H 𝓜 𝓖 𝓡 =
       judge = cited 𝓤 H (JudgeC 𝓤 H (𝓖 .A) (𝓜 .mem) (𝓡 .run)) 𝓜 𝓡 code.env #listing·judge judge-def.routine code.calls-listing·judge (judge-thm.met 𝓤 H 𝓜 𝓖 𝓡);
       count = cited 𝓤 H (CountC 𝓤 H (𝓖 .A) (𝓜 .mem) (𝓡 .run)) 𝓜 𝓡 code.env #listing·count count-def.routine code.calls-listing·count (count-thm.met 𝓤 H 𝓜 𝓖 𝓡);
       row = cited 𝓤 H (RowC 𝓤 H (𝓖 .A) (𝓜 .mem) (𝓡 .run)) 𝓜 𝓡 code.env #rows·row-of row-of-def.routine code.calls-rows·row-of (row-of-thm.met 𝓤 H 𝓜 𝓖 𝓡);
-      answer = cited 𝓤 H (AnswerC 𝓤 H (𝓖 .A) (𝓜 .mem) (𝓡 .run)) 𝓜 𝓡 code.env #listing·answer answer-def.routine code.calls-listing·answer (answer-thm.met 𝓤 H 𝓜 𝓖 𝓡);
+      answer = cited 𝓤 H (AnswerC 𝓤 H (𝓖 .A) (𝓜 .mem) (𝓡 .run)) 𝓜 𝓡 code.env #kernel·answer-to answer-def.routine code.calls-listing·answer (answer-thm.met 𝓤 H 𝓜 𝓖 𝓡);
     }))

@@ -3,8 +3,9 @@ use Prim.Native.Nat.{ℕ}
 use mathlib.Core.Path.{ap, _∙_}
 use borrow.Author.Tests.{eq-eqb, ne-eqb}
 use Rattle.queues.specs.Queue.{tablesOf}
+use Rattle.queues.specs.declared.back.Standing.{Standing}
 use Rattle.procs.specs.Stands as Stands
-use Rattle.rows.specs.Places.{spot, spotAt, spotOf}
+use Rattle.rows.specs.Places.{spot, spotIn, spotOf}
 use borrow.Author.Needs.{needs}
 use Rattle.rows.proofs.spot_of.Statement.{statement}
 use Rattle.rows.proofs.spot_of.Tie as tie
@@ -19,7 +20,7 @@ returns-2 : tie.Need-returns-2
 unfolding spotOf Stands.numbers tablesOf
 returns-2 c =
     let a = c .before .before .before .before .before .before .before .before .args in
-    rw (ne-eqb (a .p .0) (a .k .running .0) (c .before .before .before .before .if1 .left)) (c .spot-at .ensures ∙ ap spotAt (c .before .walk-back .ensures))
+    rw (ne-eqb (a .p .0) (a .k .running .0) (c .before .before .before .before .if1 .left)) (c .spot-in .ensures ∙ ap (λ (at : Standing). spotIn (at .queue) (at .ahead)) (c .before .standing-of .ensures))
 
 pub spot-of-spec : {M : Type 1} → statement M
 spot-of-spec =

@@ -1,13 +1,13 @@
--- `rows::node_before` meets its contract. Assumes nothing.
+-- `queues::back::node_before` meets its contract. Assumes nothing.
 use mathlib.Core.Path.{refl, sym}
 use native.Mathlib.Omega.{arith}
 use lib.ListN.{length-map, List·getD-eq-default}
 use mathlib.Core.List.{map}
 use Rattle.rings.proofs.Units.{entry}
 use Rattle.queues.specs.Queue.{num}
 use borrow.Author.Needs.{needs}
-use Rattle.rows.proofs.node_before.Statement.{statement}
-use Rattle.rows.proofs.node_before.Tie as tie
+use Rattle.queues.proofs.back.node_before.Statement.{statement}
+use Rattle.queues.proofs.back.node_before.Tie as tie
 
 returns : tie.Need-returns
 returns c = let a = c .before .before .args in sym (List·getD-eq-default (map num (a .t1)) 0 (omega (arith, length-map (a .t1) num)))

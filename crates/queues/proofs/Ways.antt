@@ -9,13 +9,13 @@ use native.Mathlib.Omega.{arith}
 use lib.ListN.{length, getD, length-append}
 use borrow.Author.Tests.{eq-eqb, ne-eqb, lt-ltb, le-ltb}
 use Rattle.lists.specs.Lists.{occurs, ahead}
-use Rattle.lists.proofs.Laws.{le?, occurs-append, stands}
+use Rattle.lists.proofs.Laws.{le?, occurs-append, stands, ahead-split}
 use Rattle.rings.specs.Ring.{Tables, prevAt, Absent, Chain, step, Rings}
-use Rattle.rings.proofs.Chains.{Below, below-first, below-rest, off, last, upto, from, first-link}
+use Rattle.rings.proofs.Chains.{Below, below-first, below-rest, last, upto, from, first-link}
 use Rattle.rings.proofs.Laws.{in-range, at-most-all}
-use Rattle.plain.specs.Sizes.{processes, queues}
-use Rattle.rows.specs.Places.{back}
-use Rattle.rows.specs.declared.Way.{Way}
+use Rattle.queues.specs.Queue.{processes, queues}
+use Rattle.queues.specs.Ways.{back, standing}
+use Rattle.queues.specs.declared.back.Way.{Way}
 
 abbrev way : ℕ → ℕ → Way
 way node passed = record { node = node; passed = passed }
@@ -47,6 +47,19 @@ module _ (prev : List ℕ) where
       (λ h. rw (lt-ltb node processes h, e) (back-stays steps node (suc passed) e))
       (le? processes node)
 
+  -- it passes one process a step
+  back-few : (steps node passed : ℕ) → back prev steps node passed .passed ≤ passed + steps
+  unfolding back
+  back-few zero node passed = omega arith
+  back-few (suc steps) node passed = ⊎-elim
+      (λ h. rw (le-ltb node processes h) (omega arith))
+      (λ h. rw (lt-ltb node processes h) (omega (arith, back-few steps (getD prev node 0) (suc passed))))
+      (le? processes node)
+
+  pub standing-few : (p : ℕ) → standing prev p .ahead ≤ processes
+  unfolding standing
+  standing-few p = omega (arith, back-few processes (getD prev p 0) 0)
+
 -- ---- in tables that hold queues
 
 -- back from the last of l, through members, to the node before its first
@@ -64,13 +77,8 @@ back-through {t} {a} (x ∷ l) (step e c) b steps passed =
     ∙ back-on (t .prev) (suc steps) x (passed + length l) (omega arith) (below-first x l b)
     ∙ rw (u, g, e .back))
 
--- as many are ahead of p as stand before it
-ahead-split : (p : ℕ) (l r : List ℕ) → occurs p l ≡ 0 → ahead p (l ++ p ∷ r) ≡ length l
-ahead-split p [] r n = rw (eq-eqb p p refl)
-ahead-split p (x ∷ l) r n = rw (ne-eqb x p (off (omega arith))) (ap suc (ahead-split p l r (omega arith)))
-
 module _ {t : Tables} {f : ℕ → List ℕ} (R : Rings processes queues t f) (p : ℕ) where
-  pub back-to-head : (q : ℕ) → 1 ≤ occurs p (f q) → back (t .prev) processes (prevAt t p) 0 ≡ way (processes + q) (ahead p (f q))
+  back-to-head : (q : ℕ) → 1 ≤ occurs p (f q) → back (t .prev) processes (prevAt t p) 0 ≡ way (processes + q) (ahead p (f q))
   back-to-head q o =
       let s = stands p (f q) o in
       let l : List ℕ = s .before in
@@ -85,5 +93,16 @@ module _ {t : Tables} {f : ℕ → List ℕ} (R : Rings processes queues t f) (p
       ∙ back-ends (t .prev) (processes - length l) (processes + q) (length l) (omega arith)
       ∙ ap (way (processes + q)) (sym (ap (ahead p) (s .whole) ∙ ahead-split p l (s .behind) (s .first-there))))
 
-  pub back-alone : Absent p f → p < processes → back (t .prev) processes (prevAt t p) 0 .node ≡ p
+  back-alone : Absent p f → p < processes → back (t .prev) processes (prevAt t p) 0 .node ≡ p
   back-alone a h = let e : prevAt t p ≡ p = R .alone p h a .back in rw e (back-stays (t .prev) processes p 0 e)
+
+  -- one who stands in a queue, and one who stands in none
+  pub standing-in : (q : ℕ) → 1 ≤ occurs p (f q) → standing (t .prev) p ≡ record { queue = q; ahead = ahead p (f q) }
+  unfolding standing
+  standing-in q o =
+      let e : processes + q - processes ≡ q = omega arith in
+      rw (back-to-head q o, le-ltb (processes + q) processes (omega arith), e)
+
+  pub standing-nowhere : Absent p f → p < processes → standing (t .prev) p .queue ≡ queues
+  unfolding standing
+  standing-nowhere a h = rw (back-alone a h, lt-ltb p processes h)

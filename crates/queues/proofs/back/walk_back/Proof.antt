@@ -1,18 +1,17 @@
--- `rows::walk_back` meets its contract. The invariant: what is left of the way ends where the whole way ends. Assumes nothing.
+-- `queues::back::walk_back` meets its contract. The invariant: what is left of the way ends where the whole way ends. Assumes nothing.
 use Prim.Native.Nat.{ℕ, _+_, _-_, _≤_}
 use mathlib.Core.List.{map}
 use mathlib.Core.Path.{_≡_, refl, sym, _∙_}
 use native.Mathlib.Omega.{arith}
 use lib.ListN.{getD}
 use Rattle.rings.proofs.Units.{entry}
-use Rattle.queues.specs.Queue.{num}
-use Rattle.plain.specs.Sizes.{processes}
-use Rattle.rows.specs.Places.{back}
-use Rattle.rows.specs.declared.Way.{Way}
-use Rattle.rows.proofs.Back.{back-on, back-ends, back-done}
+use Rattle.queues.specs.Queue.{processes, num}
+use Rattle.queues.specs.Ways.{back}
+use Rattle.queues.specs.declared.back.Way.{Way}
+use Rattle.queues.proofs.Ways.{back-on, back-ends, back-done}
 use borrow.Author.Needs.{needs}
-use Rattle.rows.proofs.walk_back.Statement.{statement}
-use Rattle.rows.proofs.walk_back.Tie as tie
+use Rattle.queues.proofs.back.walk_back.Statement.{statement}
+use Rattle.queues.proofs.back.walk_back.Tie as tie
 
 abbrev Inv-loop : tie.InvT-loop
 Inv-loop prev node₀ passed₀ node passed = (passed ≤ processes) × (back (map num prev) processes node₀ 0 ≡ back (map num prev) (processes - passed) node passed)
