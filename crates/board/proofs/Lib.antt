@@ -1,3 +1,4 @@
 pub mod Blank
 pub mod Calls
+pub mod Reasons
 pub mod Theorems

@@ -1,12 +1,26 @@
 // The calls as the board's firmware makes them: numbers and lent areas of bytes in, an answer out.
 // Each reads the image that lies in the state area, makes the kernel's call and writes the next image back.
 ghost use Rattle.plain.specs.Calls as Plain;
-ghost use Rattle.board.specs.Area.{Plainly, Sends, Reads, Begins, HandedBack};
+ghost use Rattle.reasons.specs.Reasons.{Explains};
+ghost use Rattle.board.specs.Area.{Lies, Plainly, Sends, Reads, Begins, HandedBack};
+ghost use Rattle.board.specs.Reasons.{Reasons};
 use kernel::Answer;
 use kernel::Done;
 use kernel::Kernel;
+use reasons::Explained;
 
 const SIZE: usize = 443;
+
+// Why a process waits, in numbers beside the answer; where the question is refused they are zeros.
+#[repr(C)]
+pub struct Reasoned {
+    pub code: u32,
+    pub number: u32,
+    pub running: u32,
+    pub kind: u32,
+    pub which: u32,
+    pub ahead: u32,
+}
 
 // The image of the next state goes into the area, the answer to the caller.
 fn hand_back(state: &mut [u8], done: Done) -> Answer
@@ -138,4 +152,29 @@ pub extern "C" fn csengadrul_wait(state: &mut [u8], semaphore: u32) -> Answer
 {
     let done = image::read(state).wait(semaphore);
     hand_back(state, done)
+}
+
+// Why a process of the state in the area waits.
+pub fn why(state: &[u8], process: u32) -> Explained
+    ensures { λ r. ⌜ Explains Lies (now (state .entry)) process r ⌝ }
+{
+    reasons::why(image::read(state), process)
+}
+
+#[no_mangle]
+pub extern "C" fn csengadrul_why(state: &[u8], process: u32) -> Reasoned
+    ensures { λ r. ⌜ Reasons (now (state .entry)) process r ⌝ }
+{
+    let w = why(state, process);
+    let a = w.answer;
+    let reason = w.reason;
+    let n = reasons::in_numbers(reason);
+    Reasoned {
+        code: a.code,
+        number: a.number,
+        running: a.running,
+        kind: n.kind,
+        which: n.which,
+        ahead: n.ahead,
+    }
 }

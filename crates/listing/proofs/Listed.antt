@@ -24,7 +24,7 @@ use Rattle.kernel.specs.declared.Kernel.{Kernel}
 use Rattle.verdicts.specs.declared.Verdict.{Verdict}
 use Rattle.plain_laws.proofs.Refusals.{Proper}
 use Rattle.image.specs.Image.{Sized, Read}
-use Rattle.board.proofs.Calls.{called}
+use Rattle.board.proofs.Calls.{asked}
 use Rattle.rows.proofs.Rows.{row-is}
 use Rattle.rows.specs.Rows.{shown}
 use Rattle.rows.specs.declared.Row.{Row}
@@ -74,4 +74,4 @@ module _ (ys : List Row) (k : Kernel) (v : Verdict) where
 
   -- the rows that the verdict allows, and the answer to it, are those of the promise
   pub lists : {area : List ℕ} {n : ℕ} {a : Answer} → Sized k → Read area k → Judged (refusals (length ys)) k v → n ≡ allowed v → a ≡ refusedWith k v .answer → Lists ys (filled ys k n) area a
-  lists z r j en ea = rw en (called z r (listed j) (record { sized = z; written = record { whole = λ h. sym (r .whole h); other = λ o. refl }; answer = ea }))
+  lists z r j en ea = rw (en, ea) (asked z r (listed j))

@@ -74,11 +74,11 @@ module _ (k : Kernel) (p : ℕ) (v : Verdict) (j : Judged (refusals p) k v) wher
   pub low : v .code ≡ 0 → p < processes
   low z = let w = judged-passed (proper p) z j in leb-false processes p (w .2 (w .0 .0) (w .0 .1) (w .0 .2) .0)
 
-  pub refused : (w : Explained) → v .code ≢ 0 → w .answer ≡ refusedWith k v .answer → meant (w .reason) ≡ Plain.unused → Explains k p w
+  pub refused : (w : Explained) → v .code ≢ 0 → w .answer ≡ refusedWith k v .answer → meant (w .reason) ≡ Plain.unused → Explains Holds k p w
   unfolding Plain.why
   refused w d e u = rw e (refused-call (refusals p) (Calls.done 0) (λ s. meant (w .reason) ≡ Plain.told s p) (meant (w .reason) ≡ Plain.unused) k v (proper p) d j (λ s n. u ∙ sym (rw n)) u)
 
-  pub accepted : (w : Explained) → v .code ≡ 0 → w .answer ≡ refusedWith k v .answer → meant (w .reason) ≡ reasonAt (Stands.numbers (k .procs)) p → Explains k p w
+  pub accepted : (w : Explained) → v .code ≡ 0 → w .answer ≡ refusedWith k v .answer → meant (w .reason) ≡ reasonAt (Stands.numbers (k .procs)) p → Explains Holds k p w
   unfolding Plain.why
   accepted w z e m = rw e (accepted-call (refusals p) (Calls.done 0) (λ s. meant (w .reason) ≡ Plain.told s p) (meant (w .reason) ≡ Plain.unused) k v (proper p) z j (refusedWith k v)
       (λ s H S q is. rw (judged-passed (proper p) z j .1) (record { next = H; answer = rw (runner-is k s H) refl }, m ∙ reason-is H p (low z) ∙ sym (rw is))))

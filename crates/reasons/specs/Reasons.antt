@@ -6,16 +6,14 @@ use mathlib.Core.Path.{_≡_}
 use lib.Dec.{eqb}
 use Rattle.lists.specs.Lists.{if_then_else_}
 use Rattle.plain.specs.Calls.{Refusal}
-use Rattle.plain.specs.State as State
+use Rattle.plain.specs.State.{Procs, State}
 use Rattle.plain.specs.Why as Plain
 use Rattle.queues.specs.Ways.{standing}
 use Rattle.queues.specs.declared.back.Standing.{Standing}
 use Rattle.procs.specs.Moves.{classAt}
 use Rattle.procs.specs.Stands as Stands
 use Rattle.promise.specs.Promise.{Asks}
-use Rattle.kernel.specs.Holds.{Holds}
 use Rattle.kernel.specs.Promise.{said}
-use Rattle.kernel.specs.declared.Kernel.{Kernel}
 use Rattle.reasons.specs.declared.Numbers.{Numbers}
 use Rattle.reasons.specs.declared.Reason.{Reason}
 use Rattle.reasons.specs.declared.Reason.the-variants.{Unused, Running, Ready, Mailbox, Semaphore, Behind}
@@ -36,18 +34,18 @@ given n = record { kind = n .kind; which = n .which; ahead = n .ahead }
 
 -- ---- the promise
 
--- Why process p waits is asked of k and answered with w, a question. Where it is refused the reason is the one whose numbers are zeros.
-abbrev pub Explains : Kernel → ℕ → Explained → Type 0
-Explains k p w = Asks Holds (λ s. Plain.why s p) (λ s. meant (w .reason) ≡ Plain.told s p) (meant (w .reason) ≡ Plain.unused) k (said (w .answer))
+-- Why process p waits is asked of a k and answered with w, a question. Where it is refused the reason is the one whose numbers are zeros.
+abbrev pub Explains : {K : Type 0} → (K → State → Type 0) → K → ℕ → Explained → Type 0
+Explains Holds k p w = Asks Holds (λ s. Plain.why s p) (λ s. meant (w .reason) ≡ Plain.told s p) (meant (w .reason) ≡ Plain.unused) k (said (w .answer))
 
 -- ---- inside: the reason by the numbers of a struct
 
 -- about process p
-abbrev pub refusals : ℕ → State.State → List Refusal
+abbrev pub refusals : ℕ → State → List Refusal
 refusals p s = Plain.noSuch p ∷ []
 
 -- processes of which only the runner and its class are told
-abbrev pub runner : ℕ → ℕ → State.Procs
+abbrev pub runner : ℕ → ℕ → Procs
 runner p c = record { running = p; queue = λ q. []; class = λ i. c; ticks = λ i. 0 }
 
 unfoldable pub reasonAt : Stands.Numbers → ℕ → Plain.Reason

@@ -2,10 +2,10 @@
 -- Assumes nothing.
 use Prim.Native.Nat.{ℕ}
 use mathlib.Core.Path.{_≡_}
-use Rattle.kernel.specs.declared.Kernel.{Kernel}
+use Rattle.plain.specs.State.{State}
 use Rattle.reasons.specs.declared.Explained.{Explained}
 use Rattle.reasons.specs.Reasons.{Explains}
 
--- No second answer and no second reason, whatever the struct holds and whatever the number.
-abbrev pub OneExplanation : Type 0
-OneExplanation = (k : Kernel) (p : ℕ) (w w′ : Explained) → Explains k p w → Explains k p w′ → w ≡ w′
+-- No second answer and no second reason, whatever is asked: of a struct or of an area, sound or not, and about any number.
+abbrev pub OneExplanation : Type 1
+OneExplanation = (K : Type 0) (Holds : K → State → Type 0) (k : K) (p : ℕ) (w w′ : Explained) → Explains Holds k p w → Explains Holds k p w′ → w ≡ w′

@@ -6,6 +6,7 @@ ghost use Rattle.lists.specs.Lists.{if_then_else_};
 ghost use Rattle.plain.specs.Sizes.{processes};
 ghost use Rattle.plain.specs.Why as Plain;
 ghost use Rattle.procs.specs.Stands as Stands;
+ghost use Rattle.kernel.specs.Holds.{Holds};
 ghost use Rattle.kernel.specs.Judged.{Judged};
 ghost use Rattle.reasons.specs.Reasons.{meant, given, Explains, runner, reasonAt, refusals};
 use kernel::Answer;
@@ -126,7 +127,7 @@ fn judge(k: Kernel, p: u32) -> Verdict
 
 // Why process p waits.
 pub fn why(k: Kernel, p: u32) -> Explained
-    ensures { λ r. ⌜ Explains k p r ⌝ }
+    ensures { λ r. ⌜ Explains Holds k p r ⌝ }
 {
     let v = judge(k, p);
     let answer = k.answer_to(v);
