@@ -109,4 +109,10 @@ csengadrul_answer csengadrul_listing(const uint8_t *state, size_t length, csenga
     return kernel_listing(&k, rows, row_count);
 }
 
+csengadrul_reason csengadrul_why(const uint8_t *state, size_t length, uint32_t process) {
+    struct kernel k;
+    if (!open_image(&k, state, length)) return reason(not_sound(), 0, 0, 0);
+    return kernel_why(&k, process);
+}
+
 #endif

@@ -76,3 +76,8 @@ csengadrul_answer csengadrul_listing(const uint8_t *state, size_t length, csenga
     (void)length;
     return kernel_listing((const struct kernel *)(const void *)state, rows, row_count);
 }
+
+csengadrul_reason csengadrul_why(const uint8_t *state, size_t length, uint32_t process) {
+    (void)length;
+    return kernel_why((const struct kernel *)(const void *)state, process);
+}

@@ -315,4 +315,30 @@ static csengadrul_answer kernel_listing(const struct kernel *k, csengadrul_row *
     return answer(k, CSENGADRUL_DONE, 0);
 }
 
+static csengadrul_reason reason(csengadrul_answer a, uint32_t kind, uint32_t which, uint32_t ahead) {
+    csengadrul_reason r;
+    r.code = a.code;
+    r.number = a.number;
+    r.running = a.running;
+    r.kind = kind;
+    r.which = which;
+    r.ahead = ahead;
+    return r;
+}
+
+static csengadrul_reason kernel_why(const struct kernel *k, uint32_t process) {
+    csengadrul_answer done = answer(k, CSENGADRUL_DONE, 0);
+    uint32_t ahead = 0;
+    uint8_t node;
+    if (process >= CSENGADRUL_PROCESSES) return reason(answer(k, CSENGADRUL_NO_PROCESS, 0), 0, 0, 0);
+    if (process == k->running) return reason(done, CSENGADRUL_WHY_RUNNING, 0, 0);
+    if (process == 0) return reason(done, CSENGADRUL_WHY_BEHIND, k->running, 0);
+    if (k->unused >> process & 1) return reason(done, CSENGADRUL_WHY_UNUSED, 0, 0);
+    for (node = k->before[process]; node < CLASS_HEAD; node = k->before[node]) ahead++;
+    if (node >= SEMAPHORE_HEAD) return reason(done, CSENGADRUL_WHY_SEMAPHORE, node - SEMAPHORE_HEAD, ahead);
+    if (node >= MAILBOX_HEAD) return reason(done, CSENGADRUL_WHY_MAILBOX, node - MAILBOX_HEAD, ahead);
+    if (k->class_of[process] == k->class_of[k->running]) return reason(done, CSENGADRUL_WHY_READY, 0, ahead + 1);
+    return reason(done, CSENGADRUL_WHY_BEHIND, k->running, 0);
+}
+
 #endif

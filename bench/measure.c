@@ -1,6 +1,7 @@
 /* One program for four kernels behind the board's functions: the board, in_place.c, checked.c and flat.c.
  *
- *   measure answers SEED CALLS      makes random calls and prints every answer, every message read and all rows listed
+ *   measure answers SEED CALLS      makes random calls and prints every answer, every message read and all rows listed,
+ *                                   and after each call why some process is where it is
  *   measure damage SEED IMAGES      prints whether each of that many damaged images is refused (not in_place)
  *   measure names                   prints the names of the calls below
  *   measure make NAME TIMES MADE    restores the same prepared state so many times, and makes that call in it
@@ -76,6 +77,13 @@ static csengadrul_answer random_call(uint32_t *shown) {
     }
 }
 
+/* Two numbers past the last are asked about too. */
+static void print_reason(unsigned long process) {
+    csengadrul_reason r = csengadrul_why(S, (uint32_t)(process % (CSENGADRUL_PROCESSES + 2)));
+    printf(" why %lu %lu %lu %lu %lu %lu", (unsigned long)r.code, (unsigned long)r.number, (unsigned long)r.running,
+           (unsigned long)r.kind, (unsigned long)r.which, (unsigned long)r.ahead);
+}
+
 static void answers(unsigned long calls) {
     unsigned long i;
     uint32_t shown = 0, j;
@@ -83,6 +91,7 @@ static void answers(unsigned long calls) {
         csengadrul_answer a = i % 500 ? random_call(&shown) : csengadrul_fresh(S);
         printf("%lu %lu %lu", (unsigned long)a.code, (unsigned long)a.number, (unsigned long)a.running);
         for (j = 0; i % 500 && j < shown; j++) printf(" %02x", room[j]);
+        print_reason(i);
         printf("\n");
     }
 }
@@ -168,6 +177,8 @@ static void prepare_hand_512(void) {
     row("wait", prepare, csengadrul_wait(S, 6), CSENGADRUL_DONE) \
     row("wait, waiting", prepare, csengadrul_wait(S, 9), CSENGADRUL_WAITS) \
     row("listing", prepare, csengadrul_listing(S, rows, CSENGADRUL_PROCESSES), CSENGADRUL_DONE) \
+    row("why of a waiter", prepare, csengadrul_why(S, 6), CSENGADRUL_DONE) \
+    row("why of the fourth in a queue", prepare, csengadrul_why(S, 10), CSENGADRUL_DONE) \
     row("refused: listing of 31 rows", prepare, csengadrul_listing(S, rows, 31), CSENGADRUL_SHORT_ROOM) \
     row("refused: yield of nobody", prepare_nobody, csengadrul_yield(S), CSENGADRUL_NO_CALLER) \
     row("refused: a damaged state", prepare_damaged, csengadrul_yield(S), CSENGADRUL_NOT_SOUND)

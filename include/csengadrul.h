@@ -46,7 +46,7 @@ extern "C" {
  * major where the image changes or an answer does, so that a state area kept from
  * another major version is not to be lent. */
 #define CSENGADRUL_VERSION_MAJOR 1
-#define CSENGADRUL_VERSION_MINOR 0
+#define CSENGADRUL_VERSION_MINOR 1
 #define CSENGADRUL_VERSION (100 * CSENGADRUL_VERSION_MAJOR + CSENGADRUL_VERSION_MINOR)
 
 /* Sizes. */
@@ -207,6 +207,34 @@ typedef struct {
  * 32 rows. `row_count` counts rows, not bytes.
  * State: only read. Rows: the first 32 are written; later ones stay. */
 csengadrul_answer csengadrul_listing(const uint8_t *state, size_t state_length, csengadrul_row *rows, size_t row_count);
+
+/* Kinds of reasons. */
+enum {
+    CSENGADRUL_WHY_UNUSED = 0,    /* it is unused */
+    CSENGADRUL_WHY_RUNNING = 1,   /* it runs */
+    CSENGADRUL_WHY_READY = 2,     /* it is ready behind `ahead` of its own class, the one that runs among them */
+    CSENGADRUL_WHY_MAILBOX = 3,   /* it waits at mailbox `which` behind `ahead` others */
+    CSENGADRUL_WHY_SEMAPHORE = 4, /* it waits at semaphore `which` behind `ahead` others */
+    CSENGADRUL_WHY_BEHIND = 5     /* it is ready, or is process 0, while process `which` of another class runs */
+};
+
+/* Why a process is where it is, behind the three numbers of an answer. `which` and
+ * `ahead` are 0 where the kind does not name them; where the question is refused,
+ * all three are 0. */
+typedef struct {
+    uint32_t code;
+    uint32_t number;
+    uint32_t running;
+    uint32_t kind;  /* one of the six above */
+    uint32_t which; /* the mailbox, the semaphore, or the process that runs */
+    uint32_t ahead; /* how many come before it */
+} csengadrul_reason;
+
+/* Tells why a process is where it is: the one reason that holds for it. Process 0
+ * and unused numbers may be asked about too.
+ * Answers 0 0 and the running process. Refuses: 14, 1 for a process over 31.
+ * State: only read; nothing changes. */
+csengadrul_reason csengadrul_why(const uint8_t *state, size_t state_length, uint32_t process);
 
 #ifdef __cplusplus
 }

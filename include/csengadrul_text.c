@@ -1,4 +1,4 @@
-/* Words for codes and places. Assumes nothing: every number has a text. */
+/* Words for codes, places and reasons. Assumes nothing: every number has a text. */
 #include "csengadrul_text.h"
 
 const char *csengadrul_code_text(uint32_t code) {
@@ -33,5 +33,17 @@ const char *csengadrul_place_text(uint32_t place) {
     case CSENGADRUL_AT_SEMAPHORE: return "waiting at a semaphore";
     case CSENGADRUL_STANDING_BY: return "standing by";
     default: return "no place of the kernel";
+    }
+}
+
+const char *csengadrul_reason_text(uint32_t kind) {
+    switch (kind) {
+    case CSENGADRUL_WHY_UNUSED: return "unused";
+    case CSENGADRUL_WHY_RUNNING: return "running";
+    case CSENGADRUL_WHY_READY: return "ready, behind others of its class";
+    case CSENGADRUL_WHY_MAILBOX: return "waiting at a mailbox";
+    case CSENGADRUL_WHY_SEMAPHORE: return "waiting at a semaphore";
+    case CSENGADRUL_WHY_BEHIND: return "ready, while another process runs";
+    default: return "no reason of the kernel";
     }
 }

@@ -16,7 +16,7 @@
  *   443 bytes the state area
  *   4 bytes   the first byte of the store that changed, and how many from there to the last one
  *             then these bytes
- *             then the whole room, for a read, or the whole table, for a listing
+ *             then the whole room, for a read, the whole table, for a listing, or kind, which and ahead, for a why
  *
  * The store is zeros at first, a room is filled with ROOM_BYTE before each read, a table with ROW_BYTE. */
 #include "lend.h"
@@ -103,6 +103,11 @@ static void make(enum call call, uint32_t number, size_t length, enum lies lies)
     give_store_change(o.changed >> STORE & 1);
     if (call == READ) give(room, length);
     if (call == LISTING) give(rows, length * sizeof *rows);
+    if (call == WHY) {
+        give_number(o.reason.kind, 4);
+        give_number(o.reason.which, 4);
+        give_number(o.reason.ahead, 4);
+    }
 }
 
 int main(void) {
@@ -117,7 +122,7 @@ int main(void) {
         } else {
             uint32_t number = take_number(4);
             size_t length = take_number(2);
-            if (which > LISTING || length > LONGEST) return 1;
+            if (which > WHY || length > LONGEST) return 1;
             if (which == SEND) take(message, length);
             make((enum call)which, number, length, turn % 2 ? AT_THE_END : AT_THE_START);
         }

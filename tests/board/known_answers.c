@@ -1,6 +1,7 @@
 /* The board's calls with answers that are known beforehand: the samples of document 01, every code,
- * and areas of every kind of length. Everything is done twice, with the areas against the end of
- * their pages and against the start. What must stay as it is is compared byte for byte. */
+ * every kind of reason, and areas of every kind of length. Everything is done twice, with the areas
+ * against the end of their pages and against the start. What must stay as it is is compared byte for
+ * byte. */
 #include "lend.h"
 
 #include <stdio.h>
@@ -76,21 +77,27 @@ static int read_well(size_t length) {
     return memcmp(room + length, room_before + length, areas[ROOM].bytes - length) == 0;
 }
 
-/* What the call may have changed, by its code. */
+static int is_reason(const csengadrul_reason *r, uint32_t kind, uint32_t which, uint32_t ahead) {
+    return r->kind == kind && r->which == which && r->ahead == ahead;
+}
+
+/* What the call may have changed, by its code. A refused question has zeros for its reason. */
 static int kept(enum call call, const outcome *o) {
     uint32_t code = o->answer.code;
-    if (code != CSENGADRUL_DONE && code != CSENGADRUL_WAITS) return o->changed == 0;
+    if (code != CSENGADRUL_DONE && code != CSENGADRUL_WAITS)
+        return o->changed == 0 && (call != WHY || is_reason(&o->reason, 0, 0, 0));
     if (memcmp(message, message_before, sizeof message) != 0) return 0;
     switch (call) {
     case SEND: return sent_well();
     case READ: return (o->changed & ~(1u << ROOM)) == 0 && read_well(o->answer.number);
     case LISTING: return (o->changed & ~(1u << ROWS)) == 0;
+    case WHY: return o->changed == 0;
     default: return (o->changed & ~(1u << STATE)) == 0;
     }
 }
 
 /* Makes a call and counts whether it answers this, and touches nothing that it must not. */
-static void expect(const char *what, enum call call, uint32_t given, uint32_t code, uint32_t number, uint32_t running) {
+static outcome expect(const char *what, enum call call, uint32_t given, uint32_t code, uint32_t number, uint32_t running) {
     outcome o;
     memcpy(state_before, state, sizeof state);
     if (call == SEND) memcpy(store_before, store, sizeof store);
@@ -106,6 +113,7 @@ static void expect(const char *what, enum call call, uint32_t given, uint32_t co
     count(o.answer.code == code && o.answer.number == number && o.answer.running == running && !o.escaped &&
               kept(call, &o),
           what);
+    return o;
 }
 
 static void fresh(void) {
@@ -287,7 +295,7 @@ static void hand_full(void) {
 
 static void state_of(enum lies lies, size_t told, size_t bytes) {
     int call;
-    for (call = FRESH; call <= (int)LISTING; call++) {
+    for (call = FRESH; call <= (int)WHY; call++) {
         hand_full();
         lay(STATE, lies, told, bytes);
         expect("a state of another length", call, 1, CSENGADRUL_NOT_SOUND, 0, 0);
@@ -409,6 +417,97 @@ static void listing(void) {
     usual();
 }
 
+/* Asks about a process and counts whether this is the reason. */
+static void why(uint32_t process, uint32_t running, uint32_t kind, uint32_t which, uint32_t ahead) {
+    outcome o = expect("why", WHY, process, CSENGADRUL_DONE, 0, running);
+    if (!is_reason(&o.reason, kind, which, ahead))
+        printf("why %lu: reason %lu %lu %lu, expected %lu %lu %lu\n", (unsigned long)process,
+               (unsigned long)o.reason.kind, (unsigned long)o.reason.which, (unsigned long)o.reason.ahead,
+               (unsigned long)kind, (unsigned long)which, (unsigned long)ahead);
+    count(is_reason(&o.reason, kind, which, ahead), "the reason");
+}
+
+/* 1, 2 and 3 wait at mailbox 15, and 4, 5 and 6 at semaphore 0, while 0 runs. */
+static void six_wait(void) {
+    uint32_t p;
+    fresh();
+    for (p = 1; p <= 6; p++) {
+        create(3, p, p);
+        if (p <= 3) expect("receive", RECEIVE, 15, CSENGADRUL_WAITS, 0, 0);
+        else expect("wait", WAIT, 0, CSENGADRUL_WAITS, 0, 0);
+    }
+}
+
+static void reasons_of_waiters(void) {
+    uint32_t p;
+    fresh();
+    why(0, 0, CSENGADRUL_WHY_RUNNING, 0, 0);
+    for (p = 1; p < CSENGADRUL_PROCESSES; p++) why(p, 0, CSENGADRUL_WHY_UNUSED, 0, 0);
+    six_wait();
+    why(0, 0, CSENGADRUL_WHY_RUNNING, 0, 0);
+    for (p = 0; p < 3; p++) {
+        why(1 + p, 0, CSENGADRUL_WHY_MAILBOX, 15, p);
+        why(4 + p, 0, CSENGADRUL_WHY_SEMAPHORE, 0, p);
+    }
+    why(7, 0, CSENGADRUL_WHY_UNUSED, 0, 0);
+    expect("stop", STOP, 2, CSENGADRUL_DONE, 0, 0);
+    why(2, 0, CSENGADRUL_WHY_UNUSED, 0, 0);
+    why(3, 0, CSENGADRUL_WHY_MAILBOX, 15, 1);
+    expect("signal", SIGNAL, 0, CSENGADRUL_DONE, 0, 4);
+    why(0, 4, CSENGADRUL_WHY_BEHIND, 4, 0);
+    why(4, 4, CSENGADRUL_WHY_RUNNING, 0, 0);
+    why(5, 4, CSENGADRUL_WHY_SEMAPHORE, 0, 0);
+    why(6, 4, CSENGADRUL_WHY_SEMAPHORE, 0, 1);
+}
+
+/* 1 of class 2 runs; 2 and 3 are ready behind it, 4, 5 and 6 in class 0. Then 7 of class 4 runs. */
+static void reasons_of_the_ready(void) {
+    uint32_t p;
+    fresh();
+    for (p = 1; p <= 6; p++) create(p <= 3 ? 2 : 0, p, 1);
+    why(0, 1, CSENGADRUL_WHY_BEHIND, 1, 0);
+    why(1, 1, CSENGADRUL_WHY_RUNNING, 0, 0);
+    why(2, 1, CSENGADRUL_WHY_READY, 0, 1);
+    why(3, 1, CSENGADRUL_WHY_READY, 0, 2);
+    for (p = 4; p <= 6; p++) why(p, 1, CSENGADRUL_WHY_BEHIND, 1, 0);
+    create(4, 7, 7);
+    why(7, 7, CSENGADRUL_WHY_RUNNING, 0, 0);
+    for (p = 0; p <= 6; p++) why(p, 7, CSENGADRUL_WHY_BEHIND, 7, 0);
+    why(8, 7, CSENGADRUL_WHY_UNUSED, 0, 0);
+    why(31, 7, CSENGADRUL_WHY_UNUSED, 0, 0);
+}
+
+/* As many as there can be, of one class: 31 is ready behind all others, and then waits behind them. */
+static void reasons_in_a_crowd(void) {
+    uint32_t p;
+    fresh();
+    for (p = 1; p < CSENGADRUL_PROCESSES; p++) create(0, p, 1);
+    for (p = 2; p < CSENGADRUL_PROCESSES; p++) why(p, 1, CSENGADRUL_WHY_READY, 0, p - 1);
+    for (p = 1; p < CSENGADRUL_PROCESSES; p++)
+        expect("wait", WAIT, 15, CSENGADRUL_WAITS, 0, p < CSENGADRUL_PROCESSES - 1 ? p + 1 : 0);
+    for (p = 1; p < CSENGADRUL_PROCESSES; p++) why(p, 0, CSENGADRUL_WHY_SEMAPHORE, 15, p - 1);
+}
+
+static void refused_questions(void) {
+    static const uint32_t beyond[] = {32, 33, 255, 256, 257, 65536, 65537, 0x80000000u, 0xffffffffu};
+    size_t i;
+    fresh();
+    expect("1 while 0 runs", WHY, 32, CSENGADRUL_NO_PROCESS, 0, 0);
+    create(1, 1, 1);
+    for (i = 0; i < sizeof beyond / sizeof *beyond; i++) expect("1", WHY, beyond[i], CSENGADRUL_NO_PROCESS, 0, 1);
+    state[CSENGADRUL_OFFSET_RUNNING] = 2;
+    expect("14 before 1", WHY, 32, CSENGADRUL_NOT_SOUND, 0, 0);
+    expect("14", WHY, 1, CSENGADRUL_NOT_SOUND, 0, 0);
+    expect("14 of process 0", WHY, 0, CSENGADRUL_NOT_SOUND, 0, 0);
+    state[CSENGADRUL_OFFSET_RUNNING] = 1;
+    lay(STATE, side, CSENGADRUL_STATE_SIZE - 1, CSENGADRUL_STATE_SIZE - 1);
+    expect("14 before 1, by the length", WHY, 32, CSENGADRUL_NOT_SOUND, 0, 0);
+    lay(STATE, NULL_POINTER, 0, 0);
+    expect("14 before 1, of no area", WHY, 32, CSENGADRUL_NOT_SOUND, 0, 0);
+    usual();
+    why(1, 1, CSENGADRUL_WHY_RUNNING, 0, 0);
+}
+
 /* In a fresh image the counts may be anything, and no other byte anything but what it is. */
 static void damaged_fresh_image(void) {
     static const uint8_t flips[] = {1, 0x80, 0xff};
@@ -425,7 +524,7 @@ static void damaged_fresh_image(void) {
 
 static void damaged_for_each_call(void) {
     int call;
-    for (call = CREATE; call <= (int)LISTING; call++) {
+    for (call = CREATE; call <= (int)WHY; call++) {
         hand_full();
         state[0] = 2;
         expect("a state in which an unused process runs", call, 1, CSENGADRUL_NOT_SOUND, 0, 0);
@@ -451,6 +550,10 @@ static void all(void) {
     rooms_for(3);
     rooms_for(512);
     listing();
+    reasons_of_waiters();
+    reasons_of_the_ready();
+    reasons_in_a_crowd();
+    refused_questions();
     damaged_fresh_image();
     damaged_for_each_call();
     full_tables();

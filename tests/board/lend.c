@@ -47,7 +47,18 @@ static int is_there(const area *a) {
     return a->lies == AT_THE_END || a->lies == AT_THE_START;
 }
 
-__attribute__((noinline)) static csengadrul_answer make(enum call call, uint32_t number, uint8_t *at[KINDS], area areas[KINDS]) {
+/* The question, whose six numbers come back in a struct of its own. */
+__attribute__((noinline)) static csengadrul_answer ask(const uint8_t *state, size_t length, uint32_t process, csengadrul_reason *reason) {
+    csengadrul_answer answer;
+    *reason = csengadrul_why(state, length, process);
+    answer.code = reason->code;
+    answer.number = reason->number;
+    answer.running = reason->running;
+    return answer;
+}
+
+__attribute__((noinline)) static csengadrul_answer make(enum call call, uint32_t number, uint8_t *at[KINDS], area areas[KINDS],
+                                                        csengadrul_reason *reason) {
     uint8_t *state = at[STATE];
     size_t length = areas[STATE].told;
     csengadrul_answer none = {~(uint32_t)0, ~(uint32_t)0, ~(uint32_t)0};
@@ -67,6 +78,7 @@ __attribute__((noinline)) static csengadrul_answer make(enum call call, uint32_t
     case SIGNAL: return csengadrul_signal(state, length, number);
     case WAIT: return csengadrul_wait(state, length, number);
     case LISTING: return csengadrul_listing(state, length, (csengadrul_row *)(void *)at[ROWS], areas[ROWS].told);
+    case WHY: return ask(state, length, number, reason);
     default: return none;
     }
 }
@@ -116,8 +128,9 @@ outcome lend(enum call call, uint32_t number, area areas[KINDS]) {
         memcpy(at[kind], a->content, a->bytes);
         memset(guard(at[kind], a), GUARD_BYTE, GUARD);
     }
+    memset(&result.reason, 0xff, sizeof result.reason);
     paint();
-    result.answer = make(call, number, at, areas);
+    result.answer = make(call, number, at, areas, &result.reason);
     look();
     result.changed = 0;
     result.escaped = 0;

@@ -22,7 +22,8 @@ enum call {
     RELEASE,
     SIGNAL,
     WAIT,
-    LISTING
+    LISTING,
+    WHY
 };
 
 enum kind { STATE, STORE, MESSAGE, ROOM, ROWS, KINDS };
@@ -44,6 +45,7 @@ typedef struct {
 /* What came of a call. `changed` and `escaped` have bit k on for kind k. */
 typedef struct {
     csengadrul_answer answer;
+    csengadrul_reason reason; /* after WHY: all six numbers, of which the first three are the answer's */
     unsigned changed; /* areas whose content is another now */
     unsigned escaped; /* areas with a guard byte that is another now */
 } outcome;

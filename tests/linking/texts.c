@@ -1,4 +1,4 @@
-/* Words for codes and places: each code and each place has one of its own, every other number says that it is none. */
+/* Words for codes, places and reasons: each has one of its own, every other number says that it is none. */
 #include "csengadrul_text.h"
 
 #include <stdio.h>
@@ -27,6 +27,10 @@ static int is_place(uint32_t number) {
     return number <= 5;
 }
 
+static int is_kind_of_reason(uint32_t number) {
+    return number <= 5;
+}
+
 static void each_has_its_own(words text, int (*is_one)(uint32_t), const char *none) {
     uint32_t number, other;
     for (number = 0; number < NUMBERS; number++) {
@@ -40,6 +44,7 @@ static void each_has_its_own(words text, int (*is_one)(uint32_t), const char *no
 int main(void) {
     each_has_its_own(csengadrul_code_text, is_code, "no code of the kernel");
     each_has_its_own(csengadrul_place_text, is_place, "no place of the kernel");
+    each_has_its_own(csengadrul_reason_text, is_kind_of_reason, "no reason of the kernel");
     printf("%u passed, %u failed\n", passed, failed);
     return failed != 0;
 }

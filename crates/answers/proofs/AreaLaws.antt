@@ -1,13 +1,16 @@
 -- Laws of an area: a text laid over its start, byte by byte, and what stands where it does not fit.
 -- Assumes nothing.
 use Prim.Native.Nat.{ℕ, suc, _+_, _-_, _/_, _%_, _≤_, _<_}
+use mathlib.Core.Bool.{Bool, true, false}
 use mathlib.Core.Path.{_≡_, refl, sym, _∙_}
 use mathlib.Core.List.{List, [], _∷_, _++_, append-assoc, append-nil}
 use native.Mathlib.Omega.{arith}
 use native.Mathlib.Numerals.{add-one}
+use lib.Dec.{leb}
 use lib.ListN.{length, getD, set, take, drop, length-append}
 use lib.Seq.{drop-cons, drop-drop, set-append-seam, take-suc, take-append-seam, drop-append-seam, take-length, drop-length, length-take-le}
-use borrow.Author.Tests.{le-leb, lt-leb}
+use borrow.Author.Tests.{leb-true, le-leb, lt-leb}
+use Rattle.lists.specs.Lists.{if_then_else_}
 use Rattle.answers.specs.Answer.{hexOf, hexPairs}
 use Rattle.answers.specs.Written.{laid, Written}
 
@@ -49,8 +52,23 @@ module _ (o s : List ℕ) (i at : ℕ) (inside : i < length s) (even : at ≡ i 
       let long : at ≡ length p = even ∙ sym (pairs-length (take i s) ∙ rw (length-take-le i s (omega arith))) in
       rw (laid-more p o at h long (omega arith), laid-more (p ++ (h ∷ [])) o (at + 1) l (simp length-append (omega arith)) (omega arith), one-more o s i inside, pairs-append (take i s) (getD s i 0 ∷ [])) (simp append-assoc)
 
+-- ---- what is written, by the text and the area
+
 pub written-fits : (l o new : List ℕ) (n : ℕ) → Written l o new n → length l ≤ length o → new ≡ laid l o
 written-fits l o new n w h = rw (le-leb (length l) (length o) h) at (w .content)
+
+module _ {l o new : List ℕ} {count : ℕ} (w : Written l o new count) where
+  pub written-within : count ≤ length o
+  written-within = rw (w .counted) (go (leb (length l) (length o)) refl)
+    where
+      go : (t : Bool) → leb (length l) (length o) ≡ t → (if t then length l else 0) ≤ length o
+      go true e = leb-true (length l) (length o) e
+      go false e = omega arith
+
+  pub written-whole : length l ≤ length o → take count new ≡ l
+  written-whole h =
+      let counted : count ≡ length l = rw (le-leb (length l) (length o) h) at (w .counted) in
+      rw (counted, written-fits l o new count w h) (take-append-seam l (drop (length l) o))
 
 -- b laid over the part of x from n on, of k bytes, where x is the area with a laid over it
 pub laid-behind : (a b o x y : List ℕ) (n k : ℕ) → x ≡ laid a o → n ≡ length a → k ≡ length x - n → y ≡ laid b (take k (drop n x)) → take n x ++ (y ++ drop k (drop n x)) ≡ laid (a ++ b) o

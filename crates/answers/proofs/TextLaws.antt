@@ -85,6 +85,11 @@ pub decimal-short : (n : ℕ) → n < 2 ^ 32 → length (decimal n) ≤ 10
 unfolding decimal
 decimal-short n h = digits-length n 9 n (omega arith)
 
+-- a byte has at most three
+pub byte-short : (n : ℕ) → n < 2 ^ 8 → length (decimal n) ≤ 3
+unfolding decimal
+byte-short n h = digits-length n 2 n (omega arith)
+
 pub decimal-length : (n : ℕ) → length (decimal n) ≡ length (tens (n / 10)) + 1
 decimal-length n = ap length (decimal-last n) ∙ simp length-append
 

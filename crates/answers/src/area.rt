@@ -6,7 +6,7 @@ ghost use lib.ListN.{length, set};
 ghost use Rattle.answers.specs.Answer.{hexOf, hexPairs};
 ghost use Rattle.answers.specs.Written.{laid, Written};
 
-pub(crate) fn put(out: &mut [u8], src: &[u8]) -> usize
+pub fn put(out: &mut [u8], src: &[u8]) -> usize
     ensures { λ r. ⌜ Written (now (src .entry)) (now (out .entry)) (now (out .exit)) r ⌝ }
 {
     if out.len() < src.len() {

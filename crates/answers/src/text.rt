@@ -48,7 +48,7 @@ fn last_digit(n: u32) -> u8
     b'0' + (n % 10) as u8
 }
 
-fn decimal(t: Text, n: u32) -> Text
+pub(crate) fn decimal(t: Text, n: u32) -> Text
     requires { ⌜ (10 ≤ t .at) × (t .at ≤ textRoom) ⌝ }
     ensures { λ r. ⌜ (shown r ≡ decimal n ++ shown t) × (t .at ≤ r .at + 10) × (r .at ≤ t .at) ⌝ }
 {

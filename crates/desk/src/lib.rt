@@ -1,10 +1,11 @@
 // The replay desk: one line of a script in, the line of its answer out.
 // The caller cuts the input into lines, carries the state and the store along, and writes the newlines. Assumes nothing.
+ghost use mathlib.Core.List.{List};
 ghost use mathlib.Core.Option.{some};
-ghost use Prim.Native.Nat.{_≤_};
+ghost use Prim.Native.Nat.{ℕ, _≤_};
 ghost use lib.ListN.{take};
 ghost use Rattle.plain.specs.Calls as Plain;
-ghost use Rattle.script.specs.Grammar.{mostBytes, largestRoom};
+ghost use Rattle.script.specs.Grammar.{does, why, mostBytes, largestRoom};
 ghost use Rattle.script.specs.Request.{called};
 ghost use Rattle.kernel.specs.Promise.{Plainly};
 ghost use Rattle.desk.specs.Line.{Turned, Line};
@@ -56,7 +57,7 @@ fn tell(d: Done, out: &mut [u8]) -> Turn
 
 fn send(k: Kernel, store: &mut [u8], m: u32, q: Request, out: &mut [u8]) -> Turn
     requires { ⌜ q .length ≤ mostBytes ⌝ }
-    ensures { λ r. ⌜ Turned (some (Plain.send m (take (q .length) (q .bytes)))) (now (store .entry)) (now (out .entry)) k (now (store .exit)) (now (out .exit)) r ⌝ }
+    ensures { λ r. ⌜ Turned (some (does (Plain.send m (take (q .length) (q .bytes))))) (now (store .entry)) (now (out .entry)) k (now (store .exit)) (now (out .exit)) r ⌝ }
 {
     let bytes = q.bytes;
     let n = q.length as usize;
@@ -67,7 +68,7 @@ fn send(k: Kernel, store: &mut [u8], m: u32, q: Request, out: &mut [u8]) -> Turn
 // A successful read shows its bytes.
 fn read(k: Kernel, store: &[u8], n: u32, out: &mut [u8]) -> Turn
     requires { ⌜ n ≤ largestRoom ⌝ }
-    ensures { λ r. ⌜ Turned (some (Plain.read n)) (now (store .entry)) (now (out .entry)) k (now (store .entry)) (now (out .exit)) r ⌝ }
+    ensures { λ r. ⌜ Turned (some (does (Plain.read n))) (now (store .entry)) (now (out .entry)) k (now (store .entry)) (now (out .exit)) r ⌝ }
 {
     let mut room = [0; LARGEST_ROOM];
     let size = n as usize;
@@ -80,6 +81,21 @@ fn read(k: Kernel, store: &[u8], n: u32, out: &mut [u8]) -> Turn
     let state = d.state;
     let length = answers::put_read_line(out, a.code, a.number, a.running, &room[..shown]);
     Turn { state, length }
+}
+
+// Why process p waits, whatever the store holds. A refusal shows no reason.
+fn why(k: Kernel, p: u32, out: &mut [u8]) -> Turn
+    ensures { λ r. ⌜ ((store : List ℕ) → Turned (some (why p)) store (now (out .entry)) k store (now (out .exit)) r) ⌝ }
+{
+    let w = reasons::why(k, p);
+    let answer = w.answer;
+    if answer.code != 0 {
+        let length = answers::put_line(out, answer.code, answer.number, answer.running);
+        return Turn { state: k, length };
+    }
+    let reason = w.reason;
+    let length = wording::put_reason_line(out, answer.code, answer.number, answer.running, reason);
+    Turn { state: k, length }
 }
 
 // Any line and any area: where the answer does not fit into out, nothing is written there and the length is 0.
@@ -99,5 +115,6 @@ pub fn line(k: Kernel, store: &mut [u8], line: &[u8], out: &mut [u8]) -> Turn
         }
         Word::Send(m) => send(k, store, m, q, out),
         Word::Read(n) => read(k, store, n, out),
+        Word::Why(p) => why(k, p, out),
     }
 }

@@ -2,7 +2,8 @@
 -- Each script starts fresh. Assumes nothing.
 use Prim.Native.Nat.{ℕ}
 use mathlib.Core.Path.{_≡_, refl}
-use mathlib.Core.List.{List, [], _∷_, map}
+use mathlib.Core.List.{List, [], _∷_, _++_, map}
+use native.Mathlib.Omega.{arith}
 use lib.ListN.{replicate}
 use Rattle.lists.specs.Lists.{total, lowest}
 use Rattle.plain.specs.Sizes.{capacity, bufferSize, longest, highestCount, slice}
@@ -10,6 +11,7 @@ use Rattle.plain.specs.State.{fresh, spots, held, freeProcess, freeBuffe
 use Rattle.plain.specs.Runs.{choose, chooseBelow, join, standDown, makeReady, goTo, remove, halt}
 use Rattle.plain.specs.Calls.{Call, Answer, create, stop, end, yield, class, tick, send, receive, read, release, signal, wait, perform, refusals, step, answers, after}
 use Rattle.plain.specs.Listing.{Row, row, queueOf}
+use Rattle.plain.specs.Why.{ready, semaphore, Says, reasonIn, reason, Numbers, numbers}
 
 -- a call, and the code, number and running process that it answers
 abbrev pub Line : Type 0
@@ -92,3 +94,24 @@ pub listing-shown : map (λ (p : ℕ). columns (row (after fresh listed) p)) (0 
     ≡ (5, 0, 0, 0, 0, 0, 0) ∷ (1, 2, 0, 2, 2, 1, 1) ∷ (2, 2, 0, 2, 3, 0, 0) ∷ (2, 2, 1, 2, 3, 0, 0) ∷ (4, 15, 0, 4, 3, 0, 0) ∷ (3, 7, 0, 3, 3, 0, 0) ∷ (0, 0, 0, 0, 0, 0, 0) ∷ []
 unfolding got row queueOf
 listing-shown = refl
+
+-- Why each of them waits, in numbers; and while a process of class 4 runs.
+abbrev pub because : List Call → ℕ → ℕ × ℕ × ℕ
+because cs p = let n : Numbers = numbers (reason (after fresh cs) p) in (n .kind, n .which, n .ahead)
+
+pub reasons-shown : map (because listed) (0 ∷ 1 ∷ 2 ∷ 3 ∷ 4 ∷ 5 ∷ 6 ∷ []) ≡ (5, 1, 0) ∷ (1, 0, 0) ∷ (2, 0, 1) ∷ (2, 0, 2) ∷ (4, 15, 0) ∷ (3, 7, 0) ∷ (0, 0, 0) ∷ []
+unfolding got queueOf reasonIn reason
+reasons-shown = refl
+
+pub behind-another : map (because (listed ++ (create 4 ∷ []))) (0 ∷ 1 ∷ 2 ∷ 3 ∷ 6 ∷ []) ≡ (5, 6, 0) ∷ (5, 6, 0) ∷ (5, 6, 0) ∷ (5, 6, 0) ∷ (1, 0, 0) ∷ []
+unfolding got queueOf reasonIn reason
+behind-another = refl
+
+-- that 3 is ready behind two of its class says that one of it runs and one stands before it; and 4 waits at semaphore 15 with nobody before it
+pub third-says : Says (after fresh listed .procs) 3 (ready 2)
+unfolding got
+third-says = ((λ e. omega arith, refl), (1, record { before = 2 ∷ []; after = []; whole = refl; many = refl }, refl))
+
+pub waiter-says : Says (after fresh listed .procs) 4 (semaphore 15 0)
+unfolding got
+waiter-says = (omega arith, record { before = []; after = []; whole = refl; many = refl })

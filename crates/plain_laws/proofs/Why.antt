@@ -186,10 +186,14 @@ module _ (s : State) (S : Sound s) (p : ℕ) where
   -- who is in no queue and does not run is unused
   in-no-place : p ≢ s .procs .running → queueOf s p ≡ queues → places (s .procs) p ≡ 0
   unfolding spots
-  in-no-place d none = omega (arith, one-other (s .procs .running) p (λ e. d (sym e)), total-zero queues (λ q. occurs p (s .procs .queue q)) (λ q h. ⊎-elim
-      (λ (u : In (s .procs) q p). absurd (omega (arith, h, none, queue-is s p q h u (no-other s S q p u))))
-      (λ (u : occurs p (s .procs .queue q) < 1). omega arith)
-      (le? 1 (occurs p (s .procs .queue q)))))
+  in-no-place d none = omega (
+    arith,
+    one-other (s .procs .running) p (λ e. d (sym e)),
+    total-zero queues (λ q. occurs p (s .procs .queue q)) (λ q h. ⊎-elim
+        (λ (u : In (s .procs) q p). absurd (omega (arith, h, none, queue-is s p q h u (no-other s S q p u))))
+        (λ (u : occurs p (s .procs .queue q) < 1). omega arith)
+        (le? 1 (occurs p (s .procs .queue q)))),
+  )
 
   pub holds : Says (s .procs) p (reason s p)
   holds = ⊎-elim
@@ -204,6 +208,9 @@ module _ (s : State) (S : Sound s) (p : ℕ) where
       (same? p (s .procs .running))
 
 -- ---- the numbers of a true reason are those of processes, mailboxes and semaphores
+
+pub runner-low : (s : State) → Sound s → s .procs .running < processes
+runner-low s S = ⊎-elim (λ (h : processes ≤ s .procs .running). absurd (omega (arith, S .seated .nobody-else (s .procs .running) h, runs-once (s .procs)))) (λ h. h) (le? processes (s .procs .running))
 
 module _ (s : State) (S : Sound s) (p : ℕ) where
   low : (q x : ℕ) → In (s .procs) q x → x < processes
@@ -221,16 +228,13 @@ module _ (s : State) (S : Sound s) (p : ℕ) where
   ahead-few : (q n : ℕ) → Stands (s .procs) q p n → n < processes
   ahead-few q n w = omega (arith, w .many, few q, ap length (w .whole), length-append (w .before) (p ∷ w .after))
 
-  runner-low : s .procs .running < processes
-  runner-low = ⊎-elim (λ (h : processes ≤ s .procs .running). absurd (omega (arith, S .seated .nobody-else (s .procs .running) h, runs-once (s .procs)))) (λ h. h) (le? processes (s .procs .running))
-
   says-small : (r : Reason) → Says (s .procs) p r → (numbers r .which < processes) × (numbers r .ahead ≤ processes)
   says-small unused w = (omega arith, omega arith)
   says-small running w = (omega arith, omega arith)
   says-small (ready n) (r, (m, w, e)) = (omega arith, omega (arith, e, ahead-few (level (s .procs) p) m w))
   says-small (mailbox x n) (h, w) = (omega (arith, h), omega (arith, ahead-few (atMailbox x) n w))
   says-small (semaphore x n) (h, w) = (omega (arith, h), omega (arith, ahead-few (atSemaphore x) n w))
-  says-small (behind q) (w, e) = (omega (arith, e, runner-low), omega arith)
+  says-small (behind q) (w, e) = (omega (arith, e, runner-low s S), omega arith)
 
   pub small : (numbers (reason s p) .which < processes) × (numbers (reason s p) .ahead ≤ processes)
   small = says-small (reason s p) (holds s S p)

@@ -9,7 +9,7 @@ use lib.ListN.{length, take, length-append}
 use lib.Seq.{paste, take-paste, take-all}
 use borrow.Author.Tests.{lt-ltb}
 use Rattle.answers.specs.Answer.{bad}
-use Rattle.script.specs.Grammar.{longestLine, call}
+use Rattle.script.specs.Grammar.{longestLine, order}
 use Rattle.answers.specs.Written.{Written}
 use Rattle.kernel.specs.declared.Kernel.{Kernel}
 use Rattle.desk.specs.Line.{Answered, Line}
@@ -37,19 +37,19 @@ in-buffer short (long over counted) = absurd (omega arith)
 
 -- ---- the answer to a line that is too long
 
-over-is-none : (l : List ℕ) → longestLine < length l → call l ≡ none
-unfolding call
+over-is-none : (l : List ℕ) → longestLine < length l → order l ≡ none
+unfolding order
 over-is-none l o = rw (lt-ltb longestLine (length l) o)
 
-blank : call [] ≡ none
-unfolding call
+blank : order [] ≡ none
+unfolding order
 blank = refl
 
 module _ {old new : List ℕ} {count : ℕ} (w : Written bad old new count) (store : List ℕ) (k : Kernel) where
   abbrev told : Turn
   told = record { state = k; length = count }
 
-  none-is-bad : (l : List ℕ) → call l ≡ none → Line store l old k store new told
+  none-is-bad : (l : List ℕ) → order l ≡ none → Line store l old k store new told
   none-is-bad l e = record { text = bad; answered = rw e Answered.bad; written = w }
 
   pub over-is-bad : {l b : List ℕ} {n : ℕ} → longestLine < n → Holds l b n → Line store l old k store new told

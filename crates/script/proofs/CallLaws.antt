@@ -7,17 +7,17 @@ use mathlib.Core.List.{List, _∷_}
 use mathlib.Core.Option.{Option, none, some}
 use lib.ListN.{length}
 use lib.Seq.{take-append-seam}
-use Rattle.plain.specs.Calls.{Call, create, stop, end, yield, class, tick, send, receive, read, release, signal, wait}
-use Rattle.script.specs.Grammar.{words, given, sentence, call}
+use Rattle.plain.specs.Calls.{create, stop, end, yield, class, tick, send, receive, read, release, signal, wait}
+use Rattle.script.specs.Grammar.{Order, does, why, words, given, sentence, order}
 use Rattle.script.specs.Request.{means, asking, requestOf, Tells}
 use Rattle.script.specs.Promises.{firstSpace, bytesOf, carried}
 use Rattle.script.specs.declared.calls.Request.{Request}
 use Rattle.script.specs.declared.calls.Word.{Word}
 use Rattle.script.specs.declared.hex.Bytes.{Bytes}
-use Rattle.script.proofs.LimitLaws.{call-limited, room-fits}
+use Rattle.script.proofs.LimitLaws.{order-limited, room-fits}
 use Rattle.script.proofs.WordLaws.{rest, words-cut, words-begin}
 
--- a third space makes a fourth word, which no call has
+-- a third space makes a fourth word, which no order has
 pub sentence-four : (w m l : List ℕ) → firstSpace l < length l → sentence (w ∷ m ∷ words l) ≡ none
 sentence-four w m l h =
     let more = words-begin (rest l (firstSpace l + 1)) in
@@ -33,30 +33,31 @@ bytes-good w none a e = absurd (true≢false (sym e ∙ ap (λ (x : Bytes). x .g
 bytes-good w (some b) a e = ap (λ (x : Bytes). record { word = w; bytes = x .bytes; length = x .length }) a
 
 -- a word that carries any bytes carries those that were read
-pub carries : (x : Word) (f : List ℕ → Option Call) → ((b : List ℕ) → asking x b ≡ requestOf (f b)) → (o : Option (List ℕ)) → carried x o ≡ requestOf (given o f)
+pub carries : (x : Word) (f : List ℕ → Option Order) → ((b : List ℕ) → asking x b ≡ requestOf (f b)) → (o : Option (List ℕ)) → carried x o ≡ requestOf (given o f)
 carries x f h none = refl
 carries x f h (some b) = h b
 
--- the request of a call means that call
-pub means-request : (c : Option Call) → means (requestOf c) ≡ c
+-- the request of an order means that order
+pub means-request : (c : Option Order) → means (requestOf c) ≡ c
 means-request none = refl
-means-request (some (create n)) = refl
-means-request (some (stop n)) = refl
-means-request (some end) = refl
-means-request (some yield) = refl
-means-request (some (class n)) = refl
-means-request (some tick) = refl
-means-request (some (send n b)) = simp take-append-seam
-means-request (some (receive n)) = refl
-means-request (some (read n)) = refl
-means-request (some release) = refl
-means-request (some (signal n)) = refl
-means-request (some (wait n)) = refl
+means-request (some (does (create n))) = refl
+means-request (some (does (stop n))) = refl
+means-request (some (does end)) = refl
+means-request (some (does yield)) = refl
+means-request (some (does (class n))) = refl
+means-request (some (does tick)) = refl
+means-request (some (does (send n b))) = simp take-append-seam
+means-request (some (does (receive n))) = refl
+means-request (some (does (read n))) = refl
+means-request (some (does release)) = refl
+means-request (some (does (signal n))) = refl
+means-request (some (does (wait n))) = refl
+means-request (some (why n)) = refl
 
-pub tells : (line : List ℕ) (r : Request) → r ≡ requestOf (call line) → Tells line r
+pub tells : (line : List ℕ) (r : Request) → r ≡ requestOf (order line) → Tells line r
 tells line r e =
-    let meaning : means r ≡ call line = ap means e ∙ means-request (call line) in
-    let limits = call-limited line in
+    let meaning : means r ≡ order line = ap means e ∙ means-request (order line) in
+    let limits = order-limited line in
     record {
       meaning = meaning;
       zeros = e ∙ sym (ap requestOf meaning);

@@ -7,33 +7,34 @@ use mathlib.Core.Path.{_≡_, refl}
 use mathlib.Core.List.{List, [], _∷_, _++_, map}
 use mathlib.Core.Option.{Option, none, some}
 use lib.ListN.{replicate}
-use Rattle.plain.specs.Calls.{Call, create, stop, end, yield, class, tick, send, receive, read, release, signal, wait}
+use Rattle.plain.specs.Calls.{create, stop, end, yield, class, tick, send, receive, read, release, signal, wait}
 use Rattle.answers.specs.Ascii.{ascii}
-use Rattle.script.specs.Grammar.{call}
+use Rattle.script.specs.Grammar.{Order, does, why, order}
 
-abbrev lines : List (String × Option Call)
+abbrev lines : List (String × Option Order)
 lines =
-    ("create 2", some (create 2))
-    ∷ ("tick", some tick)
-    ∷ ("send 3 414243", some (send 3 (65 ∷ 66 ∷ 67 ∷ [])))
-    ∷ ("receive 3", some (receive 3))
-    ∷ ("read 2", some (read 2))
-    ∷ ("end", some end)
+    ("create 2", some (does (create 2)))
+    ∷ ("tick", some (does tick))
+    ∷ ("send 3 414243", some (does (send 3 (65 ∷ 66 ∷ 67 ∷ []))))
+    ∷ ("receive 3", some (does (receive 3)))
+    ∷ ("read 2", some (does (read 2)))
+    ∷ ("end", some (does end))
     ∷ ("frob", none)
-    ∷ ("stop 31", some (stop 31))
-    ∷ ("yield", some yield)
-    ∷ ("release", some release)
-    ∷ ("signal 15", some (signal 15))
-    ∷ ("wait 15", some (wait 15))
+    ∷ ("stop 31", some (does (stop 31)))
+    ∷ ("yield", some (does yield))
+    ∷ ("release", some (does release))
+    ∷ ("signal 15", some (does (signal 15)))
+    ∷ ("wait 15", some (does (wait 15)))
+    ∷ ("why 14", some (why 14))
     -- what the kernel refuses is a good line
-    ∷ ("class 9", some (class 9))
-    ∷ ("send 300 -", some (send 300 []))
+    ∷ ("class 9", some (does (class 9)))
+    ∷ ("send 300 -", some (does (send 300 [])))
     -- numbers
-    ∷ ("read 512", some (read 512))
+    ∷ ("read 512", some (does (read 512)))
     ∷ ("read 513", none)
-    ∷ ("create 0", some (create 0))
+    ∷ ("create 0", some (does (create 0)))
     ∷ ("create 07", none)
-    ∷ ("create 65535", some (create 65535))
+    ∷ ("create 65535", some (does (create 65535)))
     ∷ ("create 65536", none)
     ∷ ("create 4294967297", none)
     ∷ ("create -1", none)
@@ -41,13 +42,15 @@ lines =
     ∷ ("send 3 4", none)
     ∷ ("send 3 4A", none)
     ∷ ("send 3 --", none)
-    ∷ ("send 3 00ff", some (send 3 (0 ∷ 255 ∷ [])))
+    ∷ ("send 3 00ff", some (does (send 3 (0 ∷ 255 ∷ []))))
     -- words and spaces
     ∷ ("", none)
     ∷ ("Tick", none)
     ∷ ("ticks", none)
     ∷ ("tick 1", none)
     ∷ ("create", none)
+    ∷ ("why", none)
+    ∷ ("why 1 2", none)
     ∷ ("send 3", none)
     ∷ ("send 3 41 42", none)
     ∷ (" tick", none)
@@ -55,18 +58,18 @@ lines =
     ∷ ("create  2", none)
     ∷ []
 
-lines-read : map (λ (x : String × Option Call). call (ascii (x .0))) lines ≡ map (λ (x : String × Option Call). x .1) lines
-unfolding call
+lines-read : map (λ (x : String × Option Order). order (ascii (x .0))) lines ≡ map (λ (x : String × Option Order). x .1) lines
+unfolding order
 lines-read = refl
 
 -- "up to 600 bytes", "one over 1,300 bytes"
 abbrev zeros : ℕ → List ℕ
 zeros n = ascii "send 0 " ++ replicate n (code "0")
 
-longest-message : call (zeros 1200) ≡ some (send 0 (replicate 600 0))
-unfolding call
+longest-message : order (zeros 1200) ≡ some (does (send 0 (replicate 600 0)))
+unfolding order
 longest-message = refl
 
-longer-message : call (zeros 1202) ≡ none
-unfolding call
+longer-message : order (zeros 1202) ≡ none
+unfolding order
 longer-message = refl

@@ -12,9 +12,9 @@ use lib.Dec.{leb, ltb}
 use borrow.Author.Needs.{needs}
 use borrow.Author.Tests.{leb-true}
 use Rattle.lists.specs.Lists.{if_then_else_}
-use Rattle.plain.specs.Calls.{Call, send, read}
+use Rattle.plain.specs.Calls.{send, read}
 use Rattle.answers.specs.Ascii.{ascii}
-use Rattle.script.specs.Grammar.{longestLine, largestRoom, mostBytes, words, same, number, pairs, atMost, bytes, beside, alone, reading, numbered, followed, given, sentence, call}
+use Rattle.script.specs.Grammar.{Order, does, longestLine, largestRoom, mostBytes, words, same, number, pairs, atMost, bytes, beside, alone, reading, numbered, followed, given, sentence, order}
 use Rattle.script.specs.Request.{requestOf}
 use Rattle.script.specs.declared.calls.Word.{Word}
 use Rattle.script.specs.declared.calls.Word.the-variants as Word
@@ -26,37 +26,38 @@ RoomFits Word.Bad = Unit {0}
 RoomFits (Word.Call q) = Unit {0}
 RoomFits (Word.Send n) = Unit {0}
 RoomFits (Word.Read n) = n ≤ largestRoom
+RoomFits (Word.Why n) = Unit {0}
 
 pub room-fits : {w : Word} (n : ℕ) → w ≡ Word.Read n → RoomFits w → n ≤ largestRoom
 room-fits n e = subst RoomFits e
 
-pub record Limited (c : Option Call) : Type 0 where
+pub record Limited (c : Option Order) : Type 0 where
   pub short : requestOf c .length ≤ mostBytes
   pub room : RoomFits (requestOf c .word)
 
-either : (t : Bool) {a b : Option Call} → Limited a → Limited b → Limited (if t then a else b)
+either : (t : Bool) {a b : Option Order} → Limited a → Limited b → Limited (if t then a else b)
 either true p q = p
 either false p q = q
 
 bad-limited : Limited none
 bad-limited = omega arith
 
-abbrev AllLimited : List (String × Option Call) → Type 0
+abbrev AllLimited : List (String × Option Order) → Type 0
 AllLimited [] = Unit {0}
 AllLimited (x ∷ l) = Limited (x .1) × AllLimited l
 
-beside-limited : (w : List ℕ) (l : List (String × Option Call)) → AllLimited l → Limited (beside w l)
+beside-limited : (w : List ℕ) (l : List (String × Option Order)) → AllLimited l → Limited (beside w l)
 beside-limited w [] p = bad-limited
 beside-limited w (x ∷ l) p = either (same w (ascii (x .0))) (p .0) (beside-limited w l (p .1))
 
 reading-limited : (n : ℕ) → Limited (reading n)
 reading-limited n = go (leb n largestRoom) refl
   where
-    go : (t : Bool) → leb n largestRoom ≡ t → Limited (if t then some (read n) else none)
+    go : (t : Bool) → leb n largestRoom ≡ t → Limited (if t then some (does (read n)) else none)
     go true e = record { short = omega arith; room = leb-true n largestRoom e }
     go false e = bad-limited
 
-given-limited : {A : Type 0} (o : Option A) (f : A → Option Call) → ((x : A) → o ≡ some x → Limited (f x)) → Limited (given o f)
+given-limited : {A : Type 0} (o : Option A) (f : A → Option Order) → ((x : A) → o ≡ some x → Limited (f x)) → Limited (given o f)
 given-limited none f h = bad-limited
 given-limited (some x) f h = h x refl
 
@@ -76,7 +77,7 @@ bytes-short (x ∷ l) b e = go (same (x ∷ l) (ascii "-")) e
     go true d = let same : [] ≡ b = cc in omega (arith, ap length same)
     go false d = at-most-short mostBytes (pairs (x ∷ l)) b d
 
-sending-limited : (n : ℕ) (w : List ℕ) → Limited (given (bytes w) (λ b. some (send n b)))
+sending-limited : (n : ℕ) (w : List ℕ) → Limited (given (bytes w) (λ b. some (does (send n b))))
 sending-limited n w = given-limited (bytes w) _ (λ b e. record { short = bytes-short w b e; room = tt })
 
 sentence-limited : (ws : List (List ℕ)) → Limited (sentence ws)
@@ -86,6 +87,6 @@ sentence-limited (w ∷ x ∷ []) = given-limited (number x) _ (λ n e. beside-l
 sentence-limited (w ∷ x ∷ y ∷ []) = given-limited (number x) _ (λ n e. beside-limited w (followed n y) (sending-limited n y, tt))
 sentence-limited (w ∷ x ∷ y ∷ z ∷ l) = bad-limited
 
-pub call-limited : (line : List ℕ) → Limited (call line)
-unfolding call
-call-limited line = either (ltb longestLine (length line)) bad-limited (sentence-limited (words line))
+pub order-limited : (line : List ℕ) → Limited (order line)
+unfolding order
+order-limited line = either (ltb longestLine (length line)) bad-limited (sentence-limited (words line))

@@ -1,4 +1,4 @@
--- "The replay desk": which kernel call a line of a script is.
+-- "The replay desk": which order a line of a script is: a kernel call, or request 1's question why a process waits.
 -- A line is the list of its bytes, without the newline. Assumes nothing.
 use Prim.Native.Nat.{ℕ, _+_, _*_, _-_}
 use Prim.Native.Char.{code}
@@ -105,62 +105,68 @@ abbrev pub bytes : List ℕ → Option (List ℕ)
 bytes [] = none
 bytes (x ∷ l) = if same (x ∷ l) (ascii "-") then some [] else atMost mostBytes (pairs (x ∷ l))
 
--- ---- calls: "create, stop, end, yield, class, tick, send, receive, read, release, signal, wait"
+-- ---- orders: "create, stop, end, yield, class, tick, send, receive, read, release, signal, wait", and request 1's "why"
+
+-- what a line asks of the desk: a kernel call, or why a process waits
+pub data Order : Type 0 where
+  does : Call → Order
+  why : ℕ → Order
 
 -- what stands beside w in a list of words, and none where w is not in it
-abbrev pub beside : List ℕ → List (String × Option Call) → Option Call
+abbrev pub beside : List ℕ → List (String × Option Order) → Option Order
 beside w [] = none
 beside w (x ∷ l) = if same w (ascii (x .0)) then x .1 else beside w l
 
 -- what is made of what was read, where it was
-abbrev pub given : {A : Type 0} → Option A → (A → Option Call) → Option Call
+abbrev pub given : {A : Type 0} → Option A → (A → Option Order) → Option Order
 given none f = none
 given (some x) f = f x
 
 -- the words that stand alone
-abbrev pub alone : List (String × Option Call)
+abbrev pub alone : List (String × Option Order)
 alone =
-    ("end", some end)
-    ∷ ("yield", some yield)
-    ∷ ("tick", some tick)
-    ∷ ("release", some release)
+    ("end", some (does end))
+    ∷ ("yield", some (does yield))
+    ∷ ("tick", some (does tick))
+    ∷ ("release", some (does release))
     ∷ []
 
 -- "read takes a room size up to 512"
-abbrev pub reading : ℕ → Option Call
-reading n = if leb n largestRoom then some (read n) else none
+abbrev pub reading : ℕ → Option Order
+reading n = if leb n largestRoom then some (does (read n)) else none
 
 -- the words that take a number
-abbrev pub numbered : ℕ → List (String × Option Call)
+abbrev pub numbered : ℕ → List (String × Option Order)
 numbered n =
-    ("create", some (create n))
-    ∷ ("stop", some (stop n))
-    ∷ ("class", some (class n))
-    ∷ ("receive", some (receive n))
+    ("create", some (does (create n)))
+    ∷ ("stop", some (does (stop n)))
+    ∷ ("class", some (does (class n)))
+    ∷ ("receive", some (does (receive n)))
     ∷ ("read", reading n)
-    ∷ ("signal", some (signal n))
-    ∷ ("wait", some (wait n))
+    ∷ ("signal", some (does (signal n)))
+    ∷ ("wait", some (does (wait n)))
+    ∷ ("why", some (why n))
     ∷ []
 
 -- the words that take a number and one thing more: "send takes a mailbox and up to 600 bytes"
-abbrev pub followed : ℕ → List ℕ → List (String × Option Call)
+abbrev pub followed : ℕ → List ℕ → List (String × Option Order)
 followed n x =
-    ("send", given (bytes x) (λ b. some (send n b)))
+    ("send", given (bytes x) (λ b. some (does (send n b))))
     ∷ []
 
-abbrev pub ofTwo : List ℕ → List ℕ → Option Call
+abbrev pub ofTwo : List ℕ → List ℕ → Option Order
 ofTwo w x = given (number x) (λ n. beside w (numbered n))
 
-abbrev pub ofThree : List ℕ → List ℕ → List ℕ → Option Call
+abbrev pub ofThree : List ℕ → List ℕ → List ℕ → Option Order
 ofThree w x y = given (number x) (λ n. beside w (followed n y))
 
-abbrev pub sentence : List (List ℕ) → Option Call
+abbrev pub sentence : List (List ℕ) → Option Order
 sentence [] = none
 sentence (w ∷ []) = beside w alone
 sentence (w ∷ x ∷ []) = ofTwo w x
 sentence (w ∷ x ∷ y ∷ []) = ofThree w x y
 sentence (w ∷ x ∷ y ∷ z ∷ l) = none
 
--- "Any other line, a blank one or one over 1,300 bytes gives `bad`": those are none.
-unfoldable pub call : List ℕ → Option Call
-call line = if ltb longestLine (length line) then none else sentence (words line)
+-- Which order a line is. "Any other line, a blank one or one over 1,300 bytes gives `bad`": those are none.
+unfoldable pub order : List ℕ → Option Order
+order line = if ltb longestLine (length line) then none else sentence (words line)

@@ -1,4 +1,4 @@
-// Which call the words of a line are. Assumes nothing.
+// Which order the words of a line are. Assumes nothing.
 use crate::hex::MOST_BYTES;
 use crate::hex::read_bytes;
 use crate::numbers::Number;
@@ -26,15 +26,16 @@ pub enum Quiet {
     Wait(u32),
 }
 
-// Which call a line is: none, one that is lent nothing, one that carries bytes, or one that is lent a room.
+// Which order a line is: none; a call that is lent nothing, one that carries bytes, or one that is lent a room; or why a process waits.
 pub enum Word {
     Bad,
     Call(Quiet),
     Send(u32),
     Read(u32),
+    Why(u32),
 }
 
-// What a line asks for. The message of a send is the first length bytes; what a call does not use is zero.
+// What a line asks for. The message of a send is the first length bytes; what an order does not use is zero.
 pub struct Request {
     pub word: Word,
     pub bytes: [u8; MOST_BYTES],
@@ -113,6 +114,9 @@ fn numbered(w: &[u8], n: u32) -> Word
     }
     if is_word(w, b"wait") {
         return Word::Call(Quiet::Wait(n));
+    }
+    if is_word(w, b"why") {
+        return Word::Why(n);
     }
     Word::Bad
 }

@@ -1,4 +1,4 @@
-// One line of a replay script: which kernel call it is. The caller cuts the input into lines. Assumes nothing.
+// One line of a replay script: which order it is. The caller cuts the input into lines. Assumes nothing.
 pub mod calls;
 mod hex;
 mod numbers;

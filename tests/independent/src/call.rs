@@ -2,6 +2,7 @@
 
 use crate::answer::Answer;
 use crate::kernel::Kernel;
+use crate::why::Reason;
 
 #[derive(Clone, Debug, PartialEq, Eq)]
 pub enum Call {
@@ -17,11 +18,20 @@ pub enum Call {
     Release,
     Signal(u32),
     Wait(u32),
+    Why(u32),
+}
+
+/// What an answer has beside its three numbers.
+#[derive(Clone, Debug, PartialEq, Eq)]
+pub enum Told {
+    /// The message that was read.
+    Message(Vec<u8>),
+    Reason(Reason),
 }
 
 impl Kernel {
-    /// Does a call. The bytes are those of a message that was read.
-    pub fn apply(&mut self, call: &Call) -> (Answer, Option<Vec<u8>>) {
+    /// Does a call.
+    pub fn apply(&mut self, call: &Call) -> (Answer, Option<Told>) {
         let answer = match call {
             Call::Create(class) => self.create(*class),
             Call::Stop(process) => self.stop(*process),
@@ -31,10 +41,17 @@ impl Kernel {
             Call::Tick => self.tick(),
             Call::Send(mailbox, bytes) => self.send(*mailbox, bytes),
             Call::Receive(mailbox) => self.receive(*mailbox),
-            Call::Read(room) => return self.read(*room),
+            Call::Read(room) => {
+                let (answer, message) = self.read(*room);
+                return (answer, message.map(Told::Message));
+            }
             Call::Release => self.release(),
             Call::Signal(semaphore) => self.signal(*semaphore),
             Call::Wait(semaphore) => self.wait(*semaphore),
+            Call::Why(process) => {
+                let (answer, reason) = self.why(*process);
+                return (answer, reason.map(Told::Reason));
+            }
         };
         (answer, None)
     }

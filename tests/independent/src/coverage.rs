@@ -1,9 +1,13 @@
-//! What random scripts reached: the codes answered and the deepest states, to show that they are worth comparing.
+//! What random scripts reached: the codes answered, the reasons told and the deepest states, to show that they are worth
+//! comparing.
 
 use crate::answer::*;
+use crate::call::Call;
 use crate::desk::answer_line;
+use crate::grammar::parse;
 use crate::kernel::*;
-use crate::scripts::Script;
+use crate::scripts::Questioned;
+use crate::why::KINDS;
 use std::collections::{BTreeMap, BTreeSet};
 use std::fmt;
 
@@ -12,7 +16,7 @@ pub struct Coverage {
     pub styles: BTreeSet<&'static str>,
     pub lines: u64,
     pub bad_lines: u64,
-    /// How often each code was answered.
+    /// How often each code was answered, to other calls than questions.
     pub codes: BTreeMap<u32, u64>,
     pub most_live: usize,
     pub most_buffers: usize,
@@ -22,22 +26,44 @@ pub struct Coverage {
     /// After how many lines a preempted process stood at the front of its class with a part of its slice.
     pub preempted: u64,
     pub highest_count: u32,
+    /// How often each kind of reason was told, and the most that were ahead in one.
+    pub reasons: BTreeMap<u32, (u64, u32)>,
+    pub refused_questions: u64,
+    /// Told of process 0, while it ran and while another did.
+    pub reasons_of_0: BTreeSet<u32>,
 }
 
 impl Coverage {
     /// Runs the script of a seed and adds what it reaches.
     pub fn add(&mut self, seed: u64, lines: u64) {
-        let mut script = Script::new(seed, lines);
+        let mut script = Questioned::new(seed, lines);
         self.styles.insert(script.style());
         let mut kernel = Kernel::fresh();
         while let Some(line) = script.next_line() {
             let answer = answer_line(&mut kernel, &line);
             self.lines += 1;
             match answer.split(' ').next().and_then(|code| code.parse().ok()) {
-                Some(code) => *self.codes.entry(code).or_default() += 1,
                 None => self.bad_lines += 1,
+                Some(code) => match parse(&line) {
+                    Some(Call::Why(process)) => self.add_question(&kernel, process),
+                    _ => *self.codes.entry(code).or_default() += 1,
+                },
             }
             self.look_at(&kernel);
+        }
+    }
+
+    fn add_question(&mut self, kernel: &Kernel, process: u32) {
+        let Some(reason) = kernel.why(process).1 else {
+            self.refused_questions += 1;
+            return;
+        };
+        let [kind, _, ahead] = reason.numbers();
+        let (times, most) = self.reasons.entry(kind).or_default();
+        *times += 1;
+        *most = ahead.max(*most);
+        if process == 0 {
+            self.reasons_of_0.insert(kind);
         }
     }
 
@@ -74,6 +100,14 @@ impl Coverage {
         want(self.most_waiters_at_a_semaphore >= 5, "5 waiters at a semaphore");
         want(self.preempted > 0, "a preempted process in front of others with fewer ticks than a slice");
         want(self.highest_count == COUNT_LIMIT, "a count of 65,535");
+        for kind in 0..KINDS {
+            want(self.reasons.contains_key(&kind), &format!("a reason of kind {kind}"));
+        }
+        for (kind, (_, most)) in self.reasons.iter().filter(|(kind, _)| (2..=4).contains(*kind)) {
+            want(*most >= 4, &format!("a reason of kind {kind} with 4 ahead"));
+        }
+        want(self.refused_questions > 0, "a refused question");
+        want(self.reasons_of_0.len() == 2, "a question about 0, while it runs and while another does");
         missing
     }
 }
@@ -93,6 +127,8 @@ impl fmt::Display for Coverage {
             self.most_waiters_at_a_semaphore,
             self.highest_count,
             self.preempted
-        )
+        )?;
+        let reasons: Vec<String> = self.reasons.iter().map(|(kind, (times, most))| format!("{kind}:{times}({most})")).collect();
+        write!(out, "; reasons by kind, with the most ahead, {}; {} questions refused", reasons.join(" "), self.refused_questions)
     }
 }

@@ -1,5 +1,6 @@
 //! The replay desk: a script in, one line out for each line of it.
 
+use crate::call::Told;
 use crate::grammar::{hex, parse, LINE_BYTES};
 use crate::kernel::Kernel;
 use std::io::{self, BufRead, Read, Write};
@@ -28,10 +29,11 @@ pub fn answer_line(kernel: &mut Kernel, line: &[u8]) -> String {
     let Some(call) = parse(line) else {
         return "bad".to_string();
     };
-    let (answer, message) = kernel.apply(&call);
+    let (answer, told) = kernel.apply(&call);
     let numbers = format!("{} {} {}", answer.code, answer.number, answer.running);
-    match message {
-        Some(bytes) => format!("{numbers} {}", hex(&bytes)),
+    match told {
+        Some(Told::Message(bytes)) => format!("{numbers} {}", hex(&bytes)),
+        Some(Told::Reason(reason)) => format!("{numbers} {reason}"),
         None => numbers,
     }
 }
@@ -41,6 +43,15 @@ pub fn replayed(script: &[u8]) -> Vec<u8> {
     let mut output = Vec::new();
     replay(&mut &script[..], &mut output).expect("memory does not fail");
     output
+}
+
+/// The state that a script in memory leads to.
+pub fn state_after(script: &[u8]) -> Kernel {
+    let mut kernel = Kernel::fresh();
+    for line in script.split(|&byte| byte == b'\n') {
+        answer_line(&mut kernel, line);
+    }
+    kernel
 }
 
 #[cfg(test)]
@@ -157,6 +168,44 @@ mod tests {
             "create 2, create 3, class 2, tick, tick, tick, tick, tick, tick",
             "0 1 1, 0 2 2, 0 0 1, 0 0 1, 0 0 1, 0 0 2, 0 0 2, 0 0 2, 0 0 1",
         );
+    }
+
+    #[test]
+    fn questions() {
+        answers("why 0, why 1, why 31, why 32, why 65535", "0 0 0 running, 0 0 0 unused, 0 0 0 unused, 1 0 0, 1 0 0");
+        answers(
+            "create 2, create 2, create 2, create 0, why 0, why 1, why 2, why 3, why 4, why 32",
+            "0 1 1, 0 2 1, 0 3 1, 0 4 1, 0 0 1 behind 1, 0 0 1 running, 0 0 1 ready 1, 0 0 1 ready 2, 0 0 1 behind 1, 1 0 1",
+        );
+        answers(
+            "create 1, receive 12, create 1, receive 12, create 1, wait 0, why 0, why 1, why 2, why 3",
+            "0 1 1, 32 0 0, 0 2 2, 32 0 0, 0 3 3, 32 0 0, 0 0 0 running, 0 0 0 mailbox 12 0, 0 0 0 mailbox 12 1, 0 0 0 semaphore 0 0",
+        );
+        answers("why, why 1 2, why 01, Why 1, why 65536", "bad, bad, bad, bad, bad");
+    }
+
+    #[test]
+    fn questions_move_nothing() {
+        let mut kernel = Kernel::fresh();
+        for line in "create 1, create 3, tick, send 4 aa, receive 4, create 3, wait 2".split(", ") {
+            answer_line(&mut kernel, line.as_bytes());
+            let before = kernel.clone();
+            for process in 0..40 {
+                answer_line(&mut kernel, format!("why {process}").as_bytes());
+                assert_eq!(kernel, before);
+            }
+        }
+    }
+
+    #[test]
+    fn states_after_scripts() {
+        assert_eq!(state_after(b""), Kernel::fresh());
+        assert_eq!(state_after(b"tick\nbad\n\n"), Kernel::fresh());
+        let mut kernel = Kernel::fresh();
+        kernel.create(2);
+        kernel.receive(3);
+        assert_eq!(state_after(b"create 2\nwhy 1\nreceive 3\nfrob\n"), kernel);
+        assert_eq!(state_after(b"create 2\nreceive 3"), kernel);
     }
 
     #[test]

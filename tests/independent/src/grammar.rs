@@ -27,6 +27,7 @@ pub fn parse(line: &[u8]) -> Option<Call> {
         [b"release"] => Call::Release,
         [b"signal", semaphore] => Call::Signal(number(semaphore)?),
         [b"wait", semaphore] => Call::Wait(number(semaphore)?),
+        [b"why", process] => Call::Why(number(process)?),
         _ => return None,
     })
 }
@@ -83,6 +84,7 @@ pub fn line_of(call: &Call) -> String {
         Call::Release => "release".to_string(),
         Call::Signal(semaphore) => format!("signal {semaphore}"),
         Call::Wait(semaphore) => format!("wait {semaphore}"),
+        Call::Why(process) => format!("why {process}"),
     }
 }
 
@@ -167,6 +169,20 @@ mod tests {
     fn lines_of_calls() {
         for line in ["create 4", "stop 65535", "end", "yield", "class 0", "tick", "send 3 -", "send 3 00ff", "receive 15", "read 512", "release", "signal 7", "wait 8"] {
             assert_eq!(line_of(&parse(line.as_bytes()).unwrap()), line);
+        }
+    }
+
+    #[test]
+    fn the_word_why() {
+        for (line, process) in [("why 0", 0), ("why 31", 31), ("why 32", 32), ("why 65535", 65_535)] {
+            assert_eq!(parse(line.as_bytes()), Some(Call::Why(process)));
+            assert_eq!(line_of(&Call::Why(process)), line);
+        }
+        for line in ["why", "why ", " why 1", "why 1 ", "why  1", "why\t1", "why 1\r", "why 1 2", "why 01", "why 00", "why -", "why -1", "why +1"] {
+            bad(line.as_bytes());
+        }
+        for line in ["why 65536", "why 4294967297", "why 1a", "why 0x1", "Why 1", "WHY 1", "wh 1", "whys 1", "why1", "why?", "wait", "why 1?"] {
+            bad(line.as_bytes());
         }
     }
 }

@@ -9,6 +9,12 @@ const NEAR_WORDS: [&str; 30] = [
     "receiv 0", "#",
 ];
 
+/// Questions that are none.
+const NEAR_QUESTIONS: [&str; 20] = [
+    "why", "why ", "why -", "why 00", "why 01", "why 031", "why -1", "why +1", "why 1 2", "why 1 ", "why  1", " why 1", "why 65536",
+    "why 4294967297", "why 1a", "Why 1", "WHY 1", "wh 1", "whys 1", "why1",
+];
+
 /// They wrap to a small number in 8, 16, 32 or 64 bits, or are written in another way than the paper's.
 const NEAR_NUMBERS: [&str; 24] = [
     "00", "01", "007", "0000", "65536", "65537", "65538", "99999", "100000", "131073", "655350", "4294967296", "4294967297",
@@ -35,6 +41,14 @@ pub fn junk_line(random: &mut Random, call: &str) -> Vec<u8> {
     };
     line.iter_mut().filter(|byte| **byte == b'\n').for_each(|byte| *byte = b'\r');
     line
+}
+
+/// The line of a question, damaged or nearly so.
+pub fn junk_question(random: &mut Random, question: &str) -> Vec<u8> {
+    match random.below(2) {
+        0 => random.pick(&NEAR_QUESTIONS).unwrap_or("why").as_bytes().to_vec(),
+        _ => junk_line(random, question),
+    }
 }
 
 fn bad_number(random: &mut Random) -> String {
@@ -133,5 +147,14 @@ mod tests {
         }
         let giant = giant_line(&mut random, "tick");
         assert!(giant.len() >= 1_000_000 && !giant.contains(&b'\n'));
+    }
+
+    #[test]
+    fn questions_that_are_none() {
+        assert!(NEAR_QUESTIONS.iter().all(|line| parse(line.as_bytes()).is_none()));
+        let mut random = Random::new(6);
+        let lines: Vec<Vec<u8>> = (0..20_000).map(|_| junk_question(&mut random, "why 3")).collect();
+        assert!(lines.iter().all(|line| !line.contains(&b'\n')));
+        assert!(lines.iter().filter(|line| parse(line).is_none()).count() > 18_000);
     }
 }

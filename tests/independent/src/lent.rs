@@ -2,7 +2,7 @@
 //! Here codes 14 and 15 are given. An area that is refused, and a store that isn't written, stay as they are.
 
 use crate::answer::*;
-use crate::call::Call;
+use crate::call::{Call, Told};
 use crate::image::*;
 use crate::kernel::{Kernel, STORE_BYTES};
 use crate::listing::Row;
@@ -20,8 +20,8 @@ pub fn fresh(area: &mut [u8]) -> Answer {
 }
 
 /// Does a call. Only a send and a read are lent a store; the others don't look at it.
-/// The bytes are those that a read puts at the start of its room.
-pub fn call(area: &mut [u8], store: &mut [u8], call: &Call) -> (Answer, Option<Vec<u8>>) {
+/// A message that was read is what goes to the start of the room.
+pub fn call(area: &mut [u8], store: &mut [u8], call: &Call) -> (Answer, Option<Told>) {
     let Some(mut kernel) = decide(area) else {
         return (STATE_REFUSED, None);
     };
@@ -54,6 +54,7 @@ mod tests {
     use crate::grammar::parse;
     use crate::random::Random;
     use crate::scripts::Script;
+    use crate::why::Reason;
 
     #[test]
     fn as_the_kernel_alone() {
@@ -97,6 +98,24 @@ mod tests {
         assert!(area.iter().all(|&byte| byte == 0));
         assert_eq!(fresh(&mut area), FRESH_WRITTEN);
         assert_eq!(call(&mut area, &mut store, &Call::Tick).0.code, DONE);
+    }
+
+    #[test]
+    fn questions() {
+        let mut area = vec![0; IMAGE_BYTES];
+        let refused = |code: u32| (Answer { code, number: 0, running: 0 }, None);
+        // 14 comes before 1, and by itself.
+        assert_eq!(call(&mut area, &mut [], &Call::Why(32)), refused(NOT_SOUND));
+        assert_eq!(call(&mut area, &mut [], &Call::Why(31)), refused(NOT_SOUND));
+        assert_eq!(call(&mut area[..442], &mut [], &Call::Why(32)), refused(NOT_SOUND));
+        fresh(&mut area);
+        assert_eq!(call(&mut area, &mut [], &Call::Why(32)), refused(NO_SUCH_PROCESS));
+        call(&mut area, &mut [], &Call::Create(2));
+        let before = area.clone();
+        let told = |reason: Reason| (Answer { code: DONE, number: 0, running: 1 }, Some(Told::Reason(reason)));
+        assert_eq!(call(&mut area, &mut [], &Call::Why(0)), told(Reason::Behind(1)));
+        assert_eq!(call(&mut area, &mut [], &Call::Why(1)), told(Reason::Running));
+        assert_eq!(area, before);
     }
 
     #[test]

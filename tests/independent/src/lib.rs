@@ -1,4 +1,5 @@
-//! The kernel of document 01, written a second time as plain lists and places, and what is needed to compare other programs with it.
+//! The kernel of document 01, and of document 02 as far as it stands, written a second time as plain lists and places,
+//! and what is needed to compare other programs with it.
 
 pub mod answer;
 pub mod call;
@@ -14,3 +15,4 @@ pub mod listing;
 pub mod random;
 pub mod scripts;
 pub mod sound;
+pub mod why;

@@ -6,7 +6,7 @@
 
 use crate::call::Call;
 use crate::grammar::{line_of, parse};
-use crate::junk::{giant_line, junk_line};
+use crate::junk::{giant_line, junk_line, junk_question};
 use crate::kernel::*;
 use crate::random::Random;
 use std::io::{self, Write};
@@ -324,16 +324,60 @@ impl Script {
     }
 }
 
-/// Writes the whole script of a seed.
+/// One line in so many is a question, and of these one in so many is junk.
+const QUESTIONS: usize = 8;
+const JUNK_QUESTIONS: usize = 40;
+
+/// A script with questions between its lines, on top of their number. They move nothing and are drawn apart, so that the
+/// lines around them are the same without them.
+pub struct Questioned {
+    script: Script,
+    random: Random,
+}
+
+impl Questioned {
+    pub fn new(seed: u64, lines: u64) -> Questioned {
+        Questioned { script: Script::new(seed, lines), random: Random::new(!seed) }
+    }
+
+    pub fn style(&self) -> &'static str {
+        self.script.style()
+    }
+
+    /// The next line, without newline.
+    pub fn next_line(&mut self) -> Option<Vec<u8>> {
+        if self.random.one_in(QUESTIONS) {
+            return Some(question(&mut self.random, self.script.kernel()));
+        }
+        self.script.next_line()
+    }
+}
+
+/// Mostly about a process in use; now and then about any, 0 too, or about one that there is not.
+fn question(random: &mut Random, kernel: &Kernel) -> Vec<u8> {
+    let process = match random.below(10) {
+        0 => random.between(PROCESSES, 65_535) as u32,
+        1..=4 => random.below(PROCESSES + 2) as u32,
+        _ => random.pick(&processes(kernel, |_| true)).unwrap_or(0),
+    };
+    let line = line_of(&Call::Why(process));
+    if random.one_in(JUNK_QUESTIONS) {
+        junk_question(random, &line)
+    } else {
+        line.into_bytes()
+    }
+}
+
+/// Writes the whole script of a seed, with questions.
 pub fn write_script(seed: u64, lines: u64, output: &mut impl Write) -> io::Result<()> {
-    let mut script = Script::new(seed, lines);
+    let mut script = Questioned::new(seed, lines);
     let mut between: &[u8] = b"";
     while let Some(line) = script.next_line() {
         output.write_all(between)?;
         output.write_all(&line)?;
         between = b"\n";
     }
-    if !script.open_end {
+    if !script.script.open_end {
         output.write_all(between)?;
     }
     Ok(())

@@ -1,7 +1,7 @@
-//! The random scripts reach every code and every deep state, with fixed seeds; and each seed gives one script.
+//! The random scripts reach every code, every kind of reason and every deep state, with fixed seeds; and each seed gives one script.
 
 use independent::coverage::Coverage;
-use independent::scripts::{script, Script};
+use independent::scripts::{script, Questioned, Script};
 
 #[test]
 fn everything_is_reached() {
@@ -35,4 +35,33 @@ fn some_scripts_end_without_newline() {
     let open = |seed: &u64| script(*seed, 20).last() != Some(&b'\n');
     let count = (0..100).filter(open).count();
     assert!((5..60).contains(&count), "{count} of 100");
+}
+
+#[test]
+fn every_kind_of_reason_is_wanted() {
+    let nothing = Coverage::default().missing();
+    for kind in 0..6 {
+        assert!(nothing.contains(&format!("a reason of kind {kind}")), "{nothing:?}");
+    }
+    assert!(nothing.contains(&"a refused question".to_string()), "{nothing:?}");
+}
+
+#[test]
+fn questions_come_on_top() {
+    // Seed 5 drives a count to its limit on top of its lines.
+    for seed in (0..16).filter(|seed| *seed != 5) {
+        let mut plain = Script::new(seed, 300);
+        let mut with_questions = Questioned::new(seed, 300);
+        let mut next = plain.next_line();
+        let mut questions = 0;
+        while let Some(line) = with_questions.next_line() {
+            if next.as_ref() == Some(&line) {
+                next = plain.next_line();
+            } else {
+                questions += 1;
+            }
+        }
+        assert_eq!(next, None, "seed {seed}: the lines of the script, in order");
+        assert!((15..80).contains(&questions), "seed {seed}: {questions} questions");
+    }
 }

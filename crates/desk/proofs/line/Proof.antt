@@ -1,4 +1,4 @@
--- `desk::line` meets its contract. Each return is the turn of the call that the request's word means.
+-- `desk::line` meets its contract. Each return is the turn of the order that the request's word means.
 -- Assumes nothing.
 use borrow.Author.Needs.{needs}
 use Rattle.answers.specs.Answer.{bad}
@@ -25,6 +25,9 @@ returns-3 c = as-line (c .before .before .before .before .before .before .before
 returns-4 : tie.Need-returns-4
 returns-4 c = as-line (c .before .before .before .before .before .before .before .before .request .ensures) (c .before .before .before .before .before .before .word3 .given .1) (c .before .before .read .ensures)
 
+returns-5 : tie.Need-returns-5
+returns-5 c = as-line (c .before .before .before .before .before .before .before .request .ensures) (c .before .before .before .before .before .word4 .given .1) (c .before .before .why .ensures _)
+
 pub line-spec : {M : Type 1} → statement M
 line-spec =
     tie.close
@@ -34,7 +37,9 @@ line-spec =
     (λ c. search needs) (λ c κs. search needs) (λ c κs. search needs)
     (λ c. search needs) send-requires
     (λ c. search needs) read-requires
+    (λ c. search needs) (λ c κs. search needs)
     (λ c. search needs) returns
     (λ c. search needs) returns-2
     (λ c. search needs) (λ c. search needs) returns-3
-    (λ c. search needs) (λ c. search needs) returns-4)
+    (λ c. search needs) (λ c. search needs) returns-4
+    (λ c. search needs) returns-5)

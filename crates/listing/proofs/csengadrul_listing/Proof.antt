@@ -395,5 +395,5 @@ csengadrul-listing-spec 𝓤 H 𝓜 𝓖 𝓡 =
       judge = cited 𝓤 H (JudgeC 𝓤 H (𝓖 .A) (𝓜 .mem) (𝓡 .run)) 𝓜 𝓡 code.env #listing·judge judge-def.routine code.calls-listing·judge (judge-thm.met 𝓤 H 𝓜 𝓖 𝓡);
       count = cited 𝓤 H (CountC 𝓤 H (𝓖 .A) (𝓜 .mem) (𝓡 .run)) 𝓜 𝓡 code.env #listing·count count-def.routine code.calls-listing·count (count-thm.met 𝓤 H 𝓜 𝓖 𝓡);
       row = cited 𝓤 H (RowC 𝓤 H (𝓖 .A) (𝓜 .mem) (𝓡 .run)) 𝓜 𝓡 code.env #rows·row-of row-of-def.routine code.calls-rows·row-of (row-of-thm.met 𝓤 H 𝓜 𝓖 𝓡);
-      answer = cited 𝓤 H (AnswerC 𝓤 H (𝓖 .A) (𝓜 .mem) (𝓡 .run)) 𝓜 𝓡 code.env #kernel·answer-to answer-def.routine code.calls-listing·answer (answer-thm.met 𝓤 H 𝓜 𝓖 𝓡);
+      answer = cited 𝓤 H (AnswerC 𝓤 H (𝓖 .A) (𝓜 .mem) (𝓡 .run)) 𝓜 𝓡 code.env #kernel·answer-to answer-def.routine code.calls-kernel·Kernel·answer-to (answer-thm.met 𝓤 H 𝓜 𝓖 𝓡);
     }))

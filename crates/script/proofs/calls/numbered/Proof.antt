@@ -32,6 +32,9 @@ past6 c = rw (past5 (c .before .before .before), sym (c .before .is-word6 .ensur
 past7 : (c : tie.Else7) → Past 7 (c .before .before .before .before .before .before .before .before .before .before .before .before .before .before .before .before .before .before .before .before .before)
 past7 c = rw (past6 (c .before .before .before), sym (c .before .is-word7 .ensures) ∙ c .if7 .left)
 
+past8 : (c : tie.Else8) → Past 8 (c .before .before .before .before .before .before .before .before .before .before .before .before .before .before .before .before .before .before .before .before .before .before .before .before)
+past8 c = rw (past7 (c .before .before .before), sym (c .before .is-word8 .ensures) ∙ c .if8 .left)
+
 returns : tie.Need-returns
 returns c = rw (sym (c .before .is-word .ensures) ∙ c .if1 .taken)
 
@@ -54,7 +57,10 @@ returns-7 : tie.Need-returns-7
 returns-7 c = rw (past6 (c .before .before .before), sym (c .before .is-word7 .ensures) ∙ c .if7 .taken)
 
 returns-8 : tie.Need-returns-8
-returns-8 c = rw (past7 c)
+returns-8 c = rw (past7 (c .before .before .before), sym (c .before .is-word8 .ensures) ∙ c .if8 .taken)
+
+returns-9 : tie.Need-returns-9
+returns-9 c = rw (past8 c)
 
 pub numbered-spec : {M : Type 1} → statement M
 numbered-spec =
@@ -67,4 +73,5 @@ numbered-spec =
     (λ c. search needs) (λ c κs. search needs) (λ c κs. search needs) returns-5
     (λ c. search needs) (λ c κs. search needs) returns-6
     (λ c. search needs) (λ c κs. search needs) returns-7
-    returns-8)
+    (λ c. search needs) (λ c κs. search needs) returns-8
+    returns-9)

@@ -1,11 +1,13 @@
 //! The driver in C and what it must write: calls go out in batches, and each reply is compared.
 
-use independent::answer::{Answer, DONE, NOT_SOUND};
-use independent::call::Call;
+use independent::answer::{Answer, DONE, NOT_SOUND, NO_SUCH_PROCESS};
+use independent::call::{Call, Told};
 use independent::grammar::line_of;
 use independent::image::{image, IMAGE_BYTES};
 use independent::kernel::{Kernel, BUFFER_BYTES, PROCESSES};
 use independent::listing::Row;
+use independent::why::KINDS;
+use std::collections::BTreeMap;
 use std::io::{self, BufReader, BufWriter, Read, Write};
 use std::process::{Child, ChildStdin, ChildStdout, Command, Stdio};
 
@@ -14,10 +16,13 @@ const PUT: u8 = 100;
 const FLUSH: u8 = 101;
 const REPLY: u8 = 0xc5;
 const LISTING: u8 = 13;
+const WHY: u8 = 14;
 const ROOM_BYTE: u8 = 0x5c;
 const ROW_BYTE: u8 = 0xee;
 
 const ROW_BYTES: usize = 8;
+/// Kind, which and ahead, four bytes each.
+const REASON_BYTES: usize = 12;
 /// So many differences are printed.
 const PRINTED: usize = 20;
 
@@ -28,8 +33,24 @@ struct Expected {
     state: Vec<u8>,
     /// Where the first byte of the store changes, and the bytes from there to the last that changes.
     store_change: (usize, Vec<u8>),
-    /// The room after a read, the table after a listing.
+    /// The room after a read, the table after a listing, the numbers of a reason after a question.
     lent: Vec<u8>,
+}
+
+/// How often questions were answered with what.
+type Tally = BTreeMap<String, usize>;
+
+fn kind(number: u32) -> String {
+    format!("kind {number}")
+}
+
+fn refused_with(code: u32) -> String {
+    format!("refused with {code}")
+}
+
+/// All that a question can be answered with.
+fn all_that_is_told() -> impl Iterator<Item = String> {
+    (0..KINDS).map(kind).chain([NOT_SOUND, NO_SUCH_PROCESS].map(refused_with))
 }
 
 /// Calls that are made in one go: the bytes for the driver and what must come back.
@@ -38,6 +59,7 @@ pub struct Batch {
     name: String,
     request: Vec<u8>,
     expected: Vec<Expected>,
+    questions: Tally,
 }
 
 impl Batch {
@@ -85,28 +107,39 @@ impl Batch {
             Call::Release => self.request(10, 0, 0, &[]),
             Call::Signal(semaphore) => self.request(11, *semaphore, 0, &[]),
             Call::Wait(semaphore) => self.request(12, *semaphore, 0, &[]),
+            Call::Why(process) => self.request(WHY, *process, 0, &[]),
         }
+    }
+
+    /// Counts a question by what it is answered with.
+    fn count_question(&mut self, call: &Call, answer: &Answer, told: Option<&Told>) {
+        let what = match (call, told) {
+            (Call::Why(_), Some(Told::Reason(reason))) => kind(reason.numbers()[0]),
+            (Call::Why(_), _) => refused_with(answer.code),
+            _ => return,
+        };
+        *self.questions.entry(what).or_default() += 1;
     }
 
     /// A call on the kernel's image: the kernel and the store are changed as they must be.
     pub fn call(&mut self, kernel: &mut Kernel, store: &mut [u8], call: &Call) {
         self.request_call(call);
         let buffer = kernel.lowest_free_buffer();
-        let (answer, message) = kernel.apply(call);
+        let (answer, told) = kernel.apply(call);
         let change = match (call, buffer) {
             (Call::Send(_, bytes), Some(buffer)) if answer.code == DONE => write_to(store, buffer * BUFFER_BYTES, bytes),
             _ => (0, vec![]),
         };
-        let lent = if let Call::Read(room) = call { room_after(*room, message.as_deref()) } else { vec![] };
-        self.expect(line_of(call), answer, image(kernel).to_vec(), change, lent);
+        self.count_question(call, &answer, told.as_ref());
+        self.expect(line_of(call), answer, image(kernel).to_vec(), change, lent_after(call, told.as_ref()));
     }
 
     /// A call on an area that holds no sound state: nothing changes.
     pub fn refused(&mut self, area: &[u8], call: &Call) {
         self.request_call(call);
         let answer = Answer { code: NOT_SOUND, number: 0, running: 0 };
-        let lent = if let Call::Read(room) = call { room_after(*room, None) } else { vec![] };
-        self.expect(line_of(call), answer, area.to_vec(), (0, vec![]), lent);
+        self.count_question(call, &answer, None);
+        self.expect(line_of(call), answer, area.to_vec(), (0, vec![]), lent_after(call, None));
     }
 
     pub fn listing(&mut self, kernel: &Kernel, rows: usize) {
@@ -138,8 +171,19 @@ fn write_to(store: &mut [u8], at: usize, bytes: &[u8]) -> (usize, Vec<u8>) {
     }
 }
 
-fn room_after(room: u32, message: Option<&[u8]>) -> Vec<u8> {
-    let mut bytes = message.unwrap_or(&[]).to_vec();
+/// What a call leaves beside the state and the store: a room, or the numbers of a reason, which are zeros where it is refused.
+fn lent_after(call: &Call, told: Option<&Told>) -> Vec<u8> {
+    match (call, told) {
+        (Call::Read(room), Some(Told::Message(bytes))) => room_after(*room, bytes),
+        (Call::Read(room), _) => room_after(*room, &[]),
+        (Call::Why(_), Some(Told::Reason(reason))) => reason.numbers().iter().flat_map(|number| number.to_le_bytes()).collect(),
+        (Call::Why(_), _) => vec![0; REASON_BYTES],
+        _ => vec![],
+    }
+}
+
+fn room_after(room: u32, message: &[u8]) -> Vec<u8> {
+    let mut bytes = message.to_vec();
     bytes.resize(room as usize, ROOM_BYTE);
     bytes
 }
@@ -152,6 +196,7 @@ pub struct Board {
     passed: usize,
     failed: usize,
     codes: [usize; 64],
+    questions: Tally,
 }
 
 impl Board {
@@ -159,11 +204,14 @@ impl Board {
         let mut driver = Command::new(&command[0]).args(&command[1..]).stdin(Stdio::piped()).stdout(Stdio::piped()).spawn()?;
         let requests = BufWriter::new(driver.stdin.take().expect("a pipe"));
         let replies = BufReader::new(driver.stdout.take().expect("a pipe"));
-        Ok(Board { driver, requests, replies, passed: 0, failed: 0, codes: [0; 64] })
+        Ok(Board { driver, requests, replies, passed: 0, failed: 0, codes: [0; 64], questions: Tally::new() })
     }
 
     /// Makes the calls of a batch and compares each. A driver that stops is an error.
     pub fn run(&mut self, batch: &Batch) -> io::Result<()> {
+        for (what, times) in &batch.questions {
+            *self.questions.entry(what.clone()).or_default() += times;
+        }
         let (requests, replies) = (&mut self.requests, &mut self.replies);
         let (passed, failed, codes, driver) = (&mut self.passed, &mut self.failed, &mut self.codes, &mut self.driver);
         std::thread::scope(|scope| {
@@ -208,6 +256,12 @@ impl Board {
         }
         let codes: Vec<String> = (0..64).filter(|&code| self.codes[code] > 0).map(|code| format!("{code}: {}", self.codes[code])).collect();
         println!("answers by code: {}", codes.join(", "));
+        let questions: Vec<String> = self.questions.iter().map(|(what, times)| format!("{what}: {times}")).collect();
+        println!("questions by answer: {}", questions.join(", "));
+        for what in all_that_is_told().filter(|what| !self.questions.contains_key(what)) {
+            println!("no question was answered so: {what}");
+            self.failed += 1;
+        }
         println!("{} passed, {} failed", self.passed, self.failed);
         std::process::exit(if self.failed == 0 { 0 } else { 1 })
     }
@@ -260,7 +314,7 @@ impl Reply {
             found.push("the store changed in another way".to_string());
         }
         if self.lent != expected.lent {
-            found.push("the room or the table is another".to_string());
+            found.push("the room, the table or the reason is another".to_string());
         }
         found
     }

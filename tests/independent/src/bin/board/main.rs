@@ -26,6 +26,8 @@ const OUT_OF_PLACE: usize = 20_000;
 const RANDOM_AREAS: usize = 2_000;
 /// The most rows that a table is given, two more than there are processes.
 const ROWS: usize = PROCESSES + 2;
+/// Numbers of processes that there are not, some of which another width would take for others.
+const BEYOND: [u32; 8] = [32, 33, 255, 256, 287, 65_536, 0x8000_0000, u32::MAX];
 
 /// The same call with a number past all that a script can name.
 fn enlarged(call: &Call, random: &mut Random) -> Call {
@@ -58,9 +60,20 @@ fn sequence(seed: u64, calls: u64, store: &mut [u8]) -> (Batch, Kernel) {
             let shortest = if random.one_in(4) { 0 } else { PROCESSES };
             batch.listing(&kernel, random.between(shortest, ROWS));
         }
+        if random.one_in(100) {
+            ask_about_all(&mut batch, &mut kernel, store);
+        }
         assert!(all_whole(&kernel, store), "the expected store holds every message whole");
     }
+    ask_about_all(&mut batch, &mut kernel, store);
     (batch, kernel)
+}
+
+/// Asks why about every process, and about some that there are not.
+fn ask_about_all(batch: &mut Batch, kernel: &mut Kernel, store: &mut [u8]) {
+    for process in (0..PROCESSES as u32).chain(BEYOND) {
+        batch.call(kernel, store, &Call::Why(process));
+    }
 }
 
 fn all_whole(kernel: &Kernel, store: &[u8]) -> bool {
@@ -89,17 +102,24 @@ fn any_call(random: &mut Random) -> Call {
     }
 }
 
-/// Makes a call on an area: refused exactly where the model's own decision refuses it. True if it was not.
+/// Asks why and makes a call on an area: both are refused exactly where the model's own decision refuses it. True if they
+/// were not. Of the sound ones, one in ten is asked about every process.
 fn judged(batch: &mut Batch, area: &[u8], store: &mut [u8], random: &mut Random) -> bool {
     let call = any_call(random);
+    let question = Call::Why(random.below(PROCESSES + 8) as u32);
     batch.put(area);
     match decide(area) {
         Some(mut kernel) => {
             take_bytes(&mut kernel, store);
+            batch.call(&mut kernel, store, &question);
+            if random.one_in(10) {
+                ask_about_all(batch, &mut kernel, store);
+            }
             batch.call(&mut kernel, store, &call);
             true
         }
         None => {
+            batch.refused(area, &question);
             batch.refused(area, &call);
             false
         }
@@ -110,9 +130,10 @@ fn judged(batch: &mut Batch, area: &[u8], store: &mut [u8], random: &mut Random)
 fn judge_all(board: &mut Board, name: String, store: &mut [u8], areas: impl Iterator<Item = Vec<u8>>) -> io::Result<Vec<usize>> {
     let mut random = Random::new(name.len() as u64);
     let mut batch = Batch::new(name.clone());
-    let sound: Vec<usize> = areas.enumerate().filter(|(_, area)| judged(&mut batch, area, store, &mut random)).map(|(number, _)| number).collect();
+    let verdicts: Vec<bool> = areas.map(|area| judged(&mut batch, &area, store, &mut random)).collect();
+    let sound: Vec<usize> = (0..verdicts.len()).filter(|&number| verdicts[number]).collect();
     board.run(&batch)?;
-    println!("{name}: {}, of them sound: {}", batch.calls(), sound.len());
+    println!("{name}: {}, of them sound: {}", verdicts.len(), sound.len());
     Ok(sound)
 }
 

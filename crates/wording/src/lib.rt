@@ -1,0 +1,38 @@
+// A reason in words: the desk's, and a sentence for a stagehand. Assumes nothing.
+mod phrase;
+mod sentence;
+mod words;
+
+ghost use Rattle.answers.specs.Answer.{answer};
+ghost use Rattle.answers.specs.Written.{Written};
+ghost use Rattle.reasons.specs.Reasons.{meant};
+ghost use Rattle.wording.specs.Words.{reasonLine, sentence};
+use crate::phrase::nothing;
+use crate::phrase::say;
+use crate::phrase::say_number;
+use reasons::Reason;
+
+// An area of so many bytes takes every line and every sentence.
+pub const LONGEST: usize = phrase::ROOM;
+
+// put_reason_line and put_sentence write at the start of out and give the length written. Where out is too short they write nothing and give 0.
+
+pub fn put_reason_line(
+    out: &mut [u8],
+    code: u32,
+    number: u32,
+    running: u32,
+    reason: Reason,
+) -> usize
+    ensures { λ r. ⌜ Written (reasonLine (answer code number running) (meant reason)) (now (out .entry)) (now (out .exit)) r ⌝ }
+{
+    let line = say(phrase::line(code, number, running), b" ");
+    phrase::put(out, words::say_words(line, reason))
+}
+
+pub fn put_sentence(out: &mut [u8], process: u8, reason: Reason) -> usize
+    ensures { λ r. ⌜ Written (sentence process (meant reason)) (now (out .entry)) (now (out .exit)) r ⌝ }
+{
+    let who = say_number(say(nothing(), b"Process "), process);
+    phrase::put(out, sentence::say_about(who, reason))
+}
