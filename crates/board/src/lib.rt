@@ -9,7 +9,8 @@ use kernel::Done;
 use kernel::Kernel;
 use reasons::Explained;
 
-const SIZE: usize = 443;
+// The bytes of a state area.
+pub const SIZE: usize = 443;
 
 // Why a process waits, in numbers beside the answer; where the question is refused they are zeros.
 #[repr(C)]

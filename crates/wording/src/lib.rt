@@ -3,9 +3,12 @@ mod phrase;
 mod sentence;
 mod words;
 
+ghost use Prim.Native.Nat.{_≤_};
+ghost use lib.ListN.{length};
 ghost use Rattle.answers.specs.Answer.{answer};
 ghost use Rattle.answers.specs.Written.{Written};
 ghost use Rattle.reasons.specs.Reasons.{meant};
+ghost use Rattle.wording.specs.Promises.{room};
 ghost use Rattle.wording.specs.Words.{reasonLine, sentence};
 use crate::phrase::nothing;
 use crate::phrase::say;
@@ -32,6 +35,7 @@ pub fn put_reason_line(
 
 pub fn put_sentence(out: &mut [u8], process: u8, reason: Reason) -> usize
     ensures { λ r. ⌜ Written (sentence process (meant reason)) (now (out .entry)) (now (out .exit)) r ⌝ }
+    ensures { λ r. ⌜ length (sentence process (meant reason)) ≤ room ⌝ }
 {
     let who = say_number(say(nothing(), b"Process "), process);
     phrase::put(out, sentence::say_about(who, reason))

@@ -1,0 +1,4 @@
+pub mod WordLaws
+pub mod ToldLaws
+pub mod Theorems
+pub mod Examples

@@ -1,0 +1,3 @@
+pub mod Word
+pub mod Told
+pub mod Theorems
