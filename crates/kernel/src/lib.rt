@@ -68,28 +68,30 @@ impl Kernel {
         Done { state, answer }
     }
 
-    // A verdict with the process that runs; code 14 comes with running 0.
-    pub fn answer_to(self, v: Verdict) -> Answer
-        ensures { λ r. ⌜ r ≡ refusedWith self v .answer ⌝ }
+    // The state with what refused the call; code 14 comes with running 0.
+    fn refuse(self, v: Verdict) -> Done
+        ensures { λ r. ⌜ r ≡ refusedWith self v ⌝ }
     {
         let mut running = self.runner();
         if v.code == 14 {
             running = 0;
         }
-        Answer {
+        let state = self;
+        let answer = Answer {
             code: v.code,
             number: v.number,
             running,
-        }
+        };
+        Done { state, answer }
     }
 
-    // The state with what refused the call.
-    fn refuse(self, v: Verdict) -> Done
-        ensures { λ r. ⌜ r ≡ refusedWith self v ⌝ }
+    // A verdict with the process that runs, of a question: the state stays in any case.
+    pub fn answer_to(self, v: Verdict) -> Answer
+        ensures { λ r. ⌜ r ≡ refusedWith self v .answer ⌝ }
     {
-        let answer = self.answer_to(v);
-        let state = self;
-        Done { state, answer }
+        let told = self.refuse(v);
+        let answer = told.answer;
+        answer
     }
 
     fn with_procs(mut self, next: Procs) -> Kernel

@@ -6,7 +6,7 @@ use mathlib.Core.Path.{_≡_, refl, sym, ap, _∙_}
 use native.Mathlib.Omega.{arith}
 use native.Mathlib.Numerals.{add-one}
 use lib.ListN.{length, getD, set, take, length-append, length-take}
-use lib.Seq.{take-all, take-nil, take-suc, take-suc-set, take-append-le, length-take-le}
+use lib.Seq.{take-all, take-suc, take-suc-set, take-append-le, length-take-le}
 use Rattle.wording.specs.Promises.{room, shown, more}
 use Rattle.wording.specs.declared.phrase.Phrase.{Phrase}
 

@@ -1,6 +1,6 @@
 -- `wording::put_reason_line` meets its contract.
 -- Assumes nothing.
-use mathlib.Core.Path.{_≡_, _∙_}
+use mathlib.Core.Path.{_≡_}
 use borrow.Author.Needs.{needs}
 use Rattle.reasons.specs.Reasons.{meant}
 use Rattle.answers.specs.Answer.{answer}

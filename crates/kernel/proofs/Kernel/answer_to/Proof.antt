@@ -1,15 +1,12 @@
 -- `kernel::Kernel::answer_to` meets its contract. Assumes nothing.
-use mathlib.Core.Path.{refl}
+use mathlib.Core.Path.{ap}
 use borrow.Author.Needs.{needs}
-use borrow.Author.Tests.{eq-eqb, ne-eqb}
+use Rattle.kernel.specs.declared.Done.{Done}
 use Rattle.kernel.proofs.Kernel.answer_to.Statement.{statement}
 use Rattle.kernel.proofs.Kernel.answer_to.Tie as tie
 
 returns : tie.Need-returns
-returns c = rw (eq-eqb _ 14 (c .if1 .taken)) refl
-
-returns-2 : tie.Need-returns-2
-returns-2 c = rw (ne-eqb _ 14 (c .if1 .left)) (cc)
+returns c = ap (λ (d : Done). d .answer) (c .before .refuse .ensures)
 
 pub answer-to-spec : {M : Type 1} → statement M
-answer-to-spec = tie.close (tie.spec (λ c κs. search needs) returns returns-2)
+answer-to-spec = tie.close (tie.spec (λ c κs. search needs) returns)
