@@ -116,7 +116,7 @@ impl Kernel {
     }
 
     // What is read off the state before any call is judged.
-    fn facts(self) -> Facts
+    pub fn facts(self) -> Facts
         ensures { λ r. ⌜ Gathered self r ⌝ }
     {
         let sound = self.is_sound();

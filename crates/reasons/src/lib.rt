@@ -122,7 +122,7 @@ fn reason_of(k: Procs, p: Pid) -> Reason
 fn judge(k: Kernel, p: u32) -> Verdict
     ensures { λ r. ⌜ Judged (refusals p) k r ⌝ }
 {
-    verdicts::on_why(k.is_sound(), p)
+    verdicts::on_why(k.facts(), p)
 }
 
 // Why process p waits.

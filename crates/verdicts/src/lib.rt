@@ -158,9 +158,8 @@ pub fn on_listing(sound: bool, rows: usize) -> Verdict
 }
 
 // Why process p waits may be asked of each process, also of 0 and of one that is unused.
-pub fn on_why(sound: bool, p: u32) -> Verdict
-    ensures { λ r. ⌜ r ≡ found (on 14 (not sound) ∷ noSuch p ∷ []) ⌝ }
+pub fn on_why(f: Facts, p: u32) -> Verdict
+    ensures { λ r. ⌜ r ≡ found (on 14 (not (f .sound)) ∷ noSuch p ∷ []) ⌝ }
 {
-    let v = Verdict { code: 0, number: 0 };
-    v.or(!sound, 14).or(PROCESSES <= p, 1)
+    on_tick(f).or(PROCESSES <= p, 1)
 }

@@ -7,7 +7,7 @@ use mathlib.Core.Path.{refl}
 
 returns : tie.Need-returns
 unfolding found
-returns c = rw (c .or2 .ensures, c .before .or .ensures) refl
+returns c = rw (c .or .ensures, c .before .on-tick .ensures) refl
 
 pub on-why-spec : {M : Type 1} → statement M
 on-why-spec = tie.close (tie.spec (λ c κs. search needs) (λ c κs. search needs) returns)
