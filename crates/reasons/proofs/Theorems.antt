@@ -1,11 +1,17 @@
--- The theorem of specs/Theorems.antt.
+-- The theorems: from the promise, and from what the plain kernel's reasons say.
 -- Assumes nothing.
+use Prim.Native.Nat.{ℕ, _<_}
 use mathlib.Core.Path.{_≡_, refl, sym, ap, _∙_}
+use borrow.Author.Tests.{lt-leb}
+use Rattle.plain.specs.Sizes.{processes}
+use Rattle.plain.specs.State.{State}
 use Rattle.plain.specs.Why as Plain
-use Rattle.promise.proofs.Runs.{agree}
+use Rattle.plain.specs.Why.{reason, told}
+use Rattle.plain_laws.proofs.Theorems as Why
+use Rattle.promise.proofs.Runs.{meets, agree}
 use Rattle.kernel.proofs.Theorems.{one-answer}
 use Rattle.reasons.specs.Reasons.{meant}
-use Rattle.reasons.specs.Theorems.{OneExplanation}
+use Rattle.reasons.specs.Theorems.{OneExplanation, TrueReason}
 use Rattle.reasons.specs.declared.Reason.{Reason}
 use Rattle.reasons.specs.declared.Reason.the-variants.{Unused, Running, Ready, Mailbox, Semaphore, Behind}
 
@@ -35,3 +41,13 @@ one-explanation K Holds k p w w′ a b =
     let answer = one-answer .answer (w .answer) (w′ .answer) (e .0) in
     let reason = one-meaning (w .reason) (w′ .reason) (e .1) in
     λ i. record { answer = answer i; reason = reason i }
+
+-- of a process the reason is told
+pub told-reason : (s : State) (p : ℕ) → p < processes → told s p ≡ reason s p
+unfolding Plain.why
+told-reason s p h = rw (lt-leb processes p h)
+
+pub true-reason : TrueReason
+true-reason K Holds k s p w H S h x =
+    let e = meets Holds x s H S .1 ∙ told-reason s p h in
+    record { holds = rw e (Why.one-reason .holds s p S h); only = λ r t. Why.one-reason .only s p r S h t ∙ sym e }

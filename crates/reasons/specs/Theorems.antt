@@ -1,11 +1,22 @@
--- The theorem about the question, as a statement over its promise. It is proved under its own name in proofs/Theorems.antt.
+-- The theorems about the question, as statements over its promise. Each is proved under its own name in proofs/Theorems.antt.
 -- Assumes nothing.
-use Prim.Native.Nat.{ℕ}
+use Prim.Native.Nat.{ℕ, _<_}
 use mathlib.Core.Path.{_≡_}
+use Rattle.plain.specs.Sizes.{processes}
+use Rattle.plain.specs.Sound.{Sound}
 use Rattle.plain.specs.State.{State}
+use Rattle.plain.specs.Why.{Reason, Says}
 use Rattle.reasons.specs.declared.Explained.{Explained}
-use Rattle.reasons.specs.Reasons.{Explains}
+use Rattle.reasons.specs.Reasons.{meant, Explains}
 
--- No second answer and no second reason, whatever is asked: of a struct or of an area, sound or not, and about any number.
+-- 1. No second answer and no second reason, whatever is asked: of a struct or of an area, sound or not, and about any number.
 abbrev pub OneExplanation : Type 1
 OneExplanation = (K : Type 0) (Holds : K → State → Type 0) (k : K) (p : ℕ) (w w′ : Explained) → Explains Holds k p w → Explains Holds k p w′ → w ≡ w′
+
+-- 2. Of a sound state that k holds, the reason that is given for a process is true, and no other is.
+pub record IsTrue (s : State) (p : ℕ) (r : Reason) : Type 0 where
+  pub holds : Says (s .procs) p r
+  pub only : (r′ : Reason) → Says (s .procs) p r′ → r′ ≡ r
+
+abbrev pub TrueReason : Type 1
+TrueReason = (K : Type 0) (Holds : K → State → Type 0) (k : K) (s : State) (p : ℕ) (w : Explained) → Holds k s → Sound s → p < processes → Explains Holds k p w → IsTrue s p (meant (w .reason))

@@ -16,8 +16,9 @@ use Rattle.plain.specs.Calls.{Answer}
 use Rattle.plain.specs.Sizes.{processes}
 use Rattle.plain.specs.Sound.{Sound}
 use Rattle.plain.specs.State.{State}
-use Rattle.plain.specs.Why.{why, reason, told}
+use Rattle.plain.specs.Why.{why, told}
 use Rattle.promise.specs.Promise as Promise
+use Rattle.reasons.proofs.Theorems.{told-reason}
 use Rattle.reasons.specs.Reasons.{meant, Explains}
 use Rattle.reasons.specs.declared.Explained as Code
 use Rattle.kernel.specs.Promise.{said}
@@ -43,9 +44,6 @@ given s p h = rw (lt-leb processes p h)
 refused-with-1 : (s : State) (p : ℕ) → processes ≤ p → why s p .answer .code ≡ 1
 unfolding why
 refused-with-1 s p h = rw (le-leb processes p h)
-
-told-reason : (s : State) (p : ℕ) → p < processes → told s p ≡ reason s p
-told-reason s p h = rw (given s p h)
 
 module _ (area : List ℕ) (p : ℕ) (w : Code.Explained) where
   code-is : (i : IsSound area) → ((s : State) → Lies area s → Sound s → Promise.Gives Lies (why s p) area (said (w .answer)) × (meant (w .reason) ≡ told s p)) → w .answer .code ≡ why (i .0) p .answer .code
