@@ -8,15 +8,16 @@ use mathlib.Core.Path.{_≡_, refl, sym, ap, _∙_, subst}
 use native.Mathlib.Omega.{arith}
 use lib.Dec.{ltb, eqb}
 use lib.ListN.{length, length-append}
-use borrow.Author.Tests.{eqb-true, eqb-false, eq-eqb, ne-eqb, lt-ltb, le-ltb, ltb-true}
-use Rattle.lists.specs.Lists.{if_then_else_, one, occurs, ahead}
+use borrow.Author.Tests.{eqb-true, eqb-false, eq-eqb, ne-eqb, lt-ltb, le-ltb, ltb-true, not-true}
+use Rattle.lists.specs.Lists.{if_then_else_, occurs, ahead}
 use Rattle.lists.proofs.Laws.{either, same?, le?, one-same, one-other, occurs-append, lowest-passes, lowest-is, lowest-none, total-zero, at-most, stands, ahead-split}
 use Rattle.plain.specs.Sizes.{processes, classes, mailboxes, semaphores, atMailbox, atSemaphore, queues}
 use Rattle.plain.specs.State.{Procs, State, level, spots, places}
 use Rattle.plain.specs.Sound.{In, Sound}
 use Rattle.plain.specs.Listing.{queueOf}
 use Rattle.plain.specs.Why.{Reason, unused, running, ready, mailbox, semaphore, behind, Stands, RunnerOf, Says, isRunnerOf, reasonIn, reason, Numbers, numbers}
-use Rattle.plain_laws.proofs.Places.{runs-once, spots-at, spots-two}
+use Rattle.plain_laws.proofs.Places.{runs-once}
+use Rattle.plain_laws.proofs.Seats.{queue-range, member, runner-range, one-queue, queue-once, queued-rests, nowhere}
 
 -- ---- the queue in which one stands
 
@@ -39,10 +40,6 @@ and-true : (a b : Bool) → (a && b) ≡ true → (a ≡ true) × (b ≡ true)
 and-true true b e = (refl, e)
 and-true false b e = absurd (true≢false (sym e))
 
-not-true : (a : Bool) → not a ≡ true → a ≡ false
-not-true true e = absurd (true≢false (sym e))
-not-true false e = refl
-
 module _ (s : Procs) (c : ℕ) where
   is-of : RunnerOf s c → isRunnerOf s c ≡ true
   is-of r = rw (ne-eqb (s .running) 0 (r .0), eq-eqb (level s (s .running)) c (r .1))
@@ -61,22 +58,6 @@ module _ (s : Procs) (c : ℕ) where
 -- ---- who stands in a queue of a sound state
 
 module _ (s : State) (S : Sound s) where
-  inside : (q p : ℕ) → In (s .procs) q p → q < queues
-  inside q p o = ⊎-elim (λ (h : queues ≤ q). absurd (omega (arith, o, ap (occurs p) (S .seated .no-more-queues q h)))) (λ h. h) (le? queues q)
-
-  not-null : (q p : ℕ) → In (s .procs) q p → 1 ≤ p
-  not-null q p o = ⊎-elim (λ h. h) (λ (h : p < 1). absurd (let e : p ≡ 0 = omega arith in omega (arith, S .seated .null-nowhere q, subst (In (s .procs) q) e o))) (le? 1 p)
-
-  not-runner : (q p : ℕ) → In (s .procs) q p → p ≢ s .procs .running
-  not-runner q p o e =
-      omega (arith, o, S .seated .one-place p (not-null q p o), spots-at (s .procs .running) (s .procs .queue) q p (inside q p o), subst (λ (x : ℕ). one x p ≡ 1) e (one-same p))
-
-  no-other : (q p : ℕ) → In (s .procs) q p → (j : ℕ) → j ≢ q → occurs p (s .procs .queue j) ≡ 0
-  no-other q p o j d = ⊎-elim
-      (λ (u : In (s .procs) j p). absurd (omega (arith, o, u, S .seated .one-place p (not-null q p o), spots-two (s .procs .running) (s .procs .queue) j q p (inside j p u) (inside q p o) d)))
-      (λ (u : occurs p (s .procs .queue j) < 1). omega arith)
-      (le? 1 (occurs p (s .procs .queue j)))
-
   -- p stands in queue q with n before it
   module _ (q p n : ℕ) (w : Stands (s .procs) q p n) where
     twice : occurs p (s .procs .queue q) ≡ occurs p (w .before) + (1 + occurs p (w .after))
@@ -86,13 +67,14 @@ module _ (s : State) (S : Sound s) where
     there = omega (arith, twice)
 
     n-ahead : ahead p (s .procs .queue q) ≡ n
-    n-ahead =
-        let once : occurs p (s .procs .queue q) ≤ 1 = omega (arith, S .seated .one-place p (not-null q p there), spots-at (s .procs .running) (s .procs .queue) q p (inside q p there)) in
-        ap (ahead p) (w .whole) ∙ ahead-split p (w .before) (w .after) (omega (arith, once, twice)) ∙ w .many
+    n-ahead = ap (ahead p) (w .whole) ∙ ahead-split p (w .before) (w .after) (omega (arith, queue-once _ _ (S .seated) q p there, twice)) ∙ w .many
 
     given-there : reason s p ≡ reasonIn (s .procs) q n
     unfolding reason
-    given-there = rw (ne-eqb p (s .procs .running) (not-runner q p there), ne-eqb p 0 (λ e. omega (arith, e, not-null q p there)), queue-is s p q (inside q p there) there (no-other q p there), n-ahead)
+    given-there =
+        let rests : p ≢ s .procs .running = λ e. queued-rests _ _ (S .seated) q p there (sym e) in
+        let process : p ≢ 0 = λ e. omega (arith, e, member _ _ (S .seated) q p there .0) in
+        rw (ne-eqb p (s .procs .running) rests, ne-eqb p 0 process, queue-is s p q (queue-range _ _ (S .seated) q p there) there (λ j d. one-queue _ _ (S .seated) q j p there d), n-ahead)
 
 -- ---- the reason by the queue
 
@@ -117,9 +99,9 @@ module _ (s : Procs) (n : ℕ) where
       let e : classes + mailboxes + x - (classes + mailboxes) ≡ x = omega arith in
       rw (le-ltb (classes + mailboxes + x) classes (omega arith), le-ltb (classes + mailboxes + x) (classes + mailboxes) (omega arith), lt-ltb (classes + mailboxes + x) queues (omega arith), e)
 
-  nowhere : reasonIn s queues n ≡ unused
+  in-none : reasonIn s queues n ≡ unused
   unfolding reasonIn
-  nowhere = refl
+  in-none = refl
 
 -- ---- who runs, who stands by, who stands nowhere
 
@@ -134,7 +116,7 @@ module _ (s : State) (p : ℕ) where
 
   given-nowhere : p ≢ s .procs .running → p ≢ 0 → queueOf s p ≡ queues → reason s p ≡ unused
   unfolding reason
-  given-nowhere d e q = rw (ne-eqb p (s .procs .running) d, ne-eqb p 0 e, q) (nowhere (s .procs) (ahead p (s .procs .queue queues)))
+  given-nowhere d e q = rw (ne-eqb p (s .procs .running) d, ne-eqb p 0 e, q) (in-none (s .procs) (ahead p (s .procs .queue queues)))
 
 -- ---- exactly one
 
@@ -149,10 +131,7 @@ module _ (s : State) (S : Sound s) (p : ℕ) where
   pub only : (r : Reason) → Says (s .procs) p r → r ≡ reason s p
   only unused (d, z) = sym (given-nowhere s p
       (λ e. omega (arith, z, subst (λ (x : ℕ). 1 ≤ places (s .procs) x) (sym e) (runs-once (s .procs)))) d
-      (queue-none s p (λ j. ⊎-elim
-      (λ (u : In (s .procs) j p). absurd (omega (arith, u, z, spots-at (s .procs .running) (s .procs .queue) j p (inside s S j p u))))
-      (λ (u : occurs p (s .procs .queue j) < 1). omega arith)
-      (le? 1 (occurs p (s .procs .queue j))))))
+      (queue-none s p (λ j. nowhere _ _ (S .seated) p j z)))
   only running e = sym (given-running s p e)
   only (ready n) (r, (m, w, e)) = rw e (sym (given-there s S (level (s .procs) p) p m w ∙ in-class (s .procs) m (level (s .procs) p) own-class (is-of (s .procs) (level (s .procs) p) r)))
   only (mailbox x n) (h, w) = sym (given-there s S (atMailbox x) p n w ∙ at-mailbox (s .procs) n x h)
@@ -168,7 +147,7 @@ module _ (s : State) (S : Sound s) (p : ℕ) where
       (λ (h : classes ≤ q). ⊎-elim
       (λ (h′ : classes + mailboxes ≤ q).
       let x : ℕ = q - (classes + mailboxes) in
-      let low : x < semaphores = omega (arith, inside s S q p (there s S q p n w)) in
+      let low : x < semaphores = omega (arith, queue-range _ _ (S .seated) q p (there s S q p n w)) in
       let e : q ≡ atSemaphore x = omega arith in
       subst (λ (i : ℕ). Says (s .procs) p (reasonIn (s .procs) i n)) (sym e) (rw (at-semaphore (s .procs) n x low) (low, subst (λ (i : ℕ). Stands (s .procs) i p n) e w)))
       (λ (h′ : q < classes + mailboxes).
@@ -190,7 +169,7 @@ module _ (s : State) (S : Sound s) (p : ℕ) where
     arith,
     one-other (s .procs .running) p (λ e. d (sym e)),
     total-zero queues (λ q. occurs p (s .procs .queue q)) (λ q h. ⊎-elim
-        (λ (u : In (s .procs) q p). absurd (omega (arith, h, none, queue-is s p q h u (no-other s S q p u))))
+        (λ (u : In (s .procs) q p). absurd (omega (arith, h, none, queue-is s p q h u (λ j e. one-queue _ _ (S .seated) q j p u e))))
         (λ (u : occurs p (s .procs .queue q) < 1). omega arith)
         (le? 1 (occurs p (s .procs .queue q)))),
   )
@@ -209,19 +188,10 @@ module _ (s : State) (S : Sound s) (p : ℕ) where
 
 -- ---- the numbers of a true reason are those of processes, mailboxes and semaphores
 
-pub runner-low : (s : State) → Sound s → s .procs .running < processes
-runner-low s S = ⊎-elim (λ (h : processes ≤ s .procs .running). absurd (omega (arith, S .seated .nobody-else (s .procs .running) h, runs-once (s .procs)))) (λ h. h) (le? processes (s .procs .running))
-
 module _ (s : State) (S : Sound s) (p : ℕ) where
-  low : (q x : ℕ) → In (s .procs) q x → x < processes
-  low q x o = ⊎-elim
-      (λ (h : processes ≤ x). absurd (omega (arith, o, S .seated .nobody-else x h, spots-at (s .procs .running) (s .procs .queue) q x (inside s S q x o))))
-      (λ h. h)
-      (le? processes x)
-
   few : (q : ℕ) → length (s .procs .queue q) ≤ processes
-  few q = at-most processes (s .procs .queue q) (low q) (λ x. ⊎-elim
-      (λ (o : In (s .procs) q x). omega (arith, S .seated .one-place x (not-null s S q x o), spots-at (s .procs .running) (s .procs .queue) q x (inside s S q x o)))
+  few q = at-most processes (s .procs .queue q) (λ x o. member _ _ (S .seated) q x o .1) (λ x. ⊎-elim
+      (λ (o : In (s .procs) q x). queue-once _ _ (S .seated) q x o)
       (λ (o : occurs x (s .procs .queue q) < 1). omega arith)
       (le? 1 (occurs x (s .procs .queue q))))
 
@@ -234,7 +204,7 @@ module _ (s : State) (S : Sound s) (p : ℕ) where
   says-small (ready n) (r, (m, w, e)) = (omega arith, omega (arith, e, ahead-few (level (s .procs) p) m w))
   says-small (mailbox x n) (h, w) = (omega (arith, h), omega (arith, ahead-few (atMailbox x) n w))
   says-small (semaphore x n) (h, w) = (omega (arith, h), omega (arith, ahead-few (atSemaphore x) n w))
-  says-small (behind q) (w, e) = (omega (arith, e, runner-low s S), omega arith)
+  says-small (behind q) (w, e) = (omega (arith, e, runner-range _ _ (S .seated)), omega arith)
 
   pub small : (numbers (reason s p) .which < processes) × (numbers (reason s p) .ahead ≤ processes)
   small = says-small (reason s p) (holds s S p)

@@ -1,7 +1,7 @@
 // One line of a replay script: which order it is. The caller cuts the input into lines. Assumes nothing.
 pub mod calls;
 mod hex;
-mod numbers;
+pub mod numbers;
 mod words;
 
 pub use calls::Request;

@@ -1,4 +1,4 @@
-// Decimal numbers as they are read. Assumes nothing but what a `requires` says.
+// Decimal numbers as they are read, at the desk and in the word of a command. Assumes nothing but what a `requires` says.
 ghost use mathlib.Core.Path.{_≡_};
 ghost use Prim.Native.Nat.{_≤_};
 ghost use Rattle.script.specs.Grammar.{highestNumber, leadingZero, number};
@@ -6,7 +6,7 @@ ghost use Rattle.script.specs.Promises.{numberOf, nextDigit};
 
 const HIGHEST_NUMBER: u32 = 65535;
 
-pub(crate) enum Number {
+pub enum Number {
     Is(u32),
     Bad,
 }
@@ -39,7 +39,7 @@ fn leading_zero(w: &[u8]) -> bool
     w[0] == b'0'
 }
 
-pub(crate) fn read_number(w: &[u8]) -> Number
+pub fn read_number(w: &[u8]) -> Number
     ensures { λ r. ⌜ r ≡ numberOf (number (now (w .entry))) ⌝ }
 {
     if w.len() == 0 {

@@ -1,4 +1,2 @@
-pub mod WordLaws
-pub mod ToldLaws
+pub mod Laws
 pub mod Theorems
-pub mod Examples

@@ -10,9 +10,9 @@ use lib.Dec.{eqb}
 use lib.ListN.{length}
 use Rattle.lists.specs.Lists.{if_then_else_}
 use Rattle.answers.specs.Written.{Written}
+use Rattle.script.specs.Grammar.{number}
 use Rattle.answers.proofs.AreaLaws.{written-whole}
-use Rattle.why.specs.Told.{noState, Refused, refused, Explained, unsound, nobody, known, About, Tells}
-use Rattle.why.specs.Word.{number}
+use Rattle.why.specs.Promise.{noState, Refused, refused, Explained, unsound, nobody, known, About, Tells}
 use Rattle.why.specs.Theorems.{OneText, EveryTextFits}
 
 record Same (good₁ good₂ : Bool) (text₁ text₂ : List ℕ) : Type 0 where

@@ -1,3 +1,2 @@
-pub mod Word
-pub mod Told
+pub mod Promise
 pub mod Theorems

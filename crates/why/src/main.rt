@@ -1,7 +1,6 @@
 // Why a process waits, for a stagehand: its number as the one argument, a state area on standard input, one line written.
 // A reason goes to standard output, a word on what is wrong with the question to standard error. Assumes nothing.
 mod telling;
-mod word;
 
 use libc::STDERR_FILENO;
 use libc::STDIN_FILENO;

@@ -2,9 +2,9 @@
 ghost use Prim.Native.Nat.{_≤_};
 ghost use lib.ListN.{length};
 ghost use Rattle.wording.specs.Promises.{room};
-ghost use Rattle.why.specs.Told.{Refused, Explained, About, Gives, Answers};
-use crate::word;
-use crate::word::Wanted;
+ghost use Rattle.why.specs.Promise.{Refused, Explained, About, Gives, Answers};
+use script::numbers::Number;
+use script::numbers::read_number;
 
 // Whether it is the reason, and how many bytes of the lent area the text takes.
 pub(crate) struct Told {
@@ -24,10 +24,10 @@ fn refuse(out: &mut [u8], words: &[u8]) -> Told
 }
 
 // The answer to the question, in words.
-fn explain(state: &[u8], process: u8, out: &mut [u8]) -> Told
+fn explain(state: &[u8], process: u32, out: &mut [u8]) -> Told
     ensures { λ r. ⌜ Gives (Explained (now (state .entry)) process) (now (out .entry)) (now (out .exit)) r ⌝ }
 {
-    let w = board::why(state, process as u32);
+    let w = board::why(state, process);
     let a = w.answer;
     if a.code == 14 {
         return refuse(
@@ -39,11 +39,11 @@ fn explain(state: &[u8], process: u8, out: &mut [u8]) -> Told
         return refuse(out, b"There is no such process: they are numbered 0 to 31.");
     }
     let reason = w.reason;
-    let length = wording::put_sentence(out, process, reason);
+    let length = wording::put_sentence(out, process as u8, reason);
     Told { good: true, length }
 }
 
-fn about(state: &[u8], process: u8, out: &mut [u8]) -> Told
+fn about(state: &[u8], process: u32, out: &mut [u8]) -> Told
     ensures { λ r. ⌜ Gives (About (now (state .entry)) process) (now (out .entry)) (now (out .exit)) r ⌝ }
 {
     if state.len() == 0 {
@@ -56,9 +56,8 @@ fn about(state: &[u8], process: u8, out: &mut [u8]) -> Told
 pub(crate) fn tell(state: &[u8], word: &[u8], out: &mut [u8]) -> Told
     ensures { λ r. ⌜ Answers (now (state .entry)) (now (word .entry)) (now (out .entry)) (now (out .exit)) r ⌝ }
 {
-    let wanted = word::read(word);
-    match wanted {
-        Wanted::Nothing => refuse(out, b"Which process? A number from 0 to 31 is wanted."),
-        Wanted::Number(p) => about(state, p, out),
-    }
+    let Number::Is(process) = read_number(word) else {
+        return refuse(out, b"Which process? A number from 0 to 31 is wanted.");
+    };
+    about(state, process, out)
 }

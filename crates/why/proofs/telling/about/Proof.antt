@@ -3,7 +3,7 @@
 use lib.ListN.{length}
 use borrow.Author.Tests.{eq-eqb, ne-eqb}
 use borrow.Author.Needs.{needs}
-use Rattle.why.proofs.ToldLaws.{gives-as}
+use Rattle.why.proofs.Laws.{gives-as}
 use Rattle.why.proofs.telling.about.Statement.{statement}
 use Rattle.why.proofs.telling.about.Tie as tie
 

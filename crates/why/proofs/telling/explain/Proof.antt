@@ -1,7 +1,10 @@
 -- `why::telling::explain` meets its contract.
 -- Assumes nothing.
+use Prim.Native.Nat.{_<_}
+use native.Mathlib.Omega.{arith}
 use borrow.Author.Needs.{needs}
-use Rattle.why.proofs.ToldLaws.{gives-as, is-known, is-not-sound, is-nobody}
+use Rattle.plain.specs.Sizes.{processes}
+use Rattle.why.proofs.Laws.{gives-as, is-process, is-known, is-not-sound, is-nobody}
 use Rattle.why.proofs.telling.explain.Statement.{statement}
 use Rattle.why.proofs.telling.explain.Tie as tie
 
@@ -16,6 +19,13 @@ returns-2 c =
     let s = c .before .before .before .before .before .before .before .before .before .before .before .before .before .args in
     let w = c .before .before .before .before .before .before .before .before .before .before .why in
     gives-as (is-nobody (s .state .now) (s .process) (w .result) (c .before .before .before .before .before .before .before .if1 .left) (c .before .before .before .before .before .if2 .taken) (w .ensures)) (c .before .before .refuse2 .ensures)
+
+cast-put-sentence : tie.Need-cast-put-sentence
+cast-put-sentence c =
+    let s = c .before .before .before .before .before .before .before .before .before .args in
+    let w = c .before .before .before .before .before .before .why in
+    let low : s .process < processes = is-process (s .state .now) (s .process) (w .result) (c .before .if2 .left) (w .ensures) in
+    omega arith
 
 returns-3 : tie.Need-returns-3
 returns-3 c =
@@ -32,5 +42,5 @@ explain-spec =
     (λ c. search needs) returns
     (λ c. search needs) (λ c κs. search needs)
     (λ c. search needs) returns-2
-    (λ c κs. search needs)
+    cast-put-sentence (λ c κs. search needs)
     (λ c. search needs) returns-3)

@@ -1,7 +1,7 @@
 -- `why::telling::refuse` meets its contract.
 -- Assumes nothing.
 use borrow.Author.Needs.{needs}
-use Rattle.why.specs.Told.{refused}
+use Rattle.why.specs.Promise.{refused}
 use Rattle.why.proofs.telling.refuse.Statement.{statement}
 use Rattle.why.proofs.telling.refuse.Tie as tie
 

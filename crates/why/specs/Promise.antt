@@ -14,10 +14,10 @@ use Rattle.plain.specs.State.{State}
 use Rattle.plain.specs.Why.{reason}
 use Rattle.answers.specs.Ascii.{ascii}
 use Rattle.answers.specs.Written.{Written}
+use Rattle.script.specs.Grammar.{number}
 use Rattle.board.specs.Area.{Lies, IsSound}
 use Rattle.wording.specs.Promises.{room}
 use Rattle.wording.specs.Words.{sentence}
-use Rattle.why.specs.Word.{number}
 use Rattle.why.specs.declared.telling.Told.{Told}
 
 -- ---- the faults
@@ -61,6 +61,6 @@ pub record Gives (Is : Bool → List ℕ → Type 0) (old new : List ℕ) (r : T
   pub short : length text ≤ room
   pub written : Written text old new (r .length)
 
--- for the word and the area that are given
+-- for the area and the word that are given, a number being written as at the desk
 abbrev pub Answers : List ℕ → List ℕ → List ℕ → List ℕ → Told → Type 0
 Answers area word = Gives (Tells area (number word))

@@ -24,11 +24,8 @@ use Rattle.reasons.specs.declared.Explained as Code
 use Rattle.kernel.specs.Promise.{said}
 use Rattle.board.specs.Area.{Lies, IsSound}
 use Rattle.wording.specs.Words.{sentence}
-use Rattle.why.specs.Told.{noNumber, noProcess, noState, notSound, Refused, refused, Explained, unsound, nobody, known, About, Tells, Gives}
-use Rattle.why.specs.Word.{capped, wantedOf}
+use Rattle.why.specs.Promise.{noProcess, notSound, Refused, refused, Explained, unsound, nobody, known, Gives}
 use Rattle.why.specs.declared.telling.Told.{Told}
-use Rattle.why.specs.declared.word.Wanted.the-variants.{Nothing, Number}
-use Rattle.why.proofs.WordLaws.{nothing-read, number-read}
 
 -- the same text, meant otherwise
 pub gives-as : {Is Is′ : Bool → List ℕ → Type 0} {old new : List ℕ} {r : Told} → ((good : Bool) (text : List ℕ) → Is good text → Is′ good text) → Gives Is old new r → Gives Is′ old new r
@@ -49,11 +46,17 @@ module _ (area : List ℕ) (p : ℕ) (w : Code.Explained) where
   code-is : (i : IsSound area) → ((s : State) → Lies area s → Sound s → Promise.Gives Lies (why s p) area (said (w .answer)) × (meant (w .reason) ≡ told s p)) → w .answer .code ≡ why (i .0) p .answer .code
   code-is i h = ap (λ (x : Answer). x .code) (h (i .0) (i .1) (i .2) .0 .answer)
 
-  pub is-known : w .answer .code ≡ 0 → Explains Lies area p w → Explained area p true (sentence p (meant (w .reason)))
-  is-known e (Promise.sound i h) = ⊎-elim
+  pub is-process : w .answer .code ≡ 0 → Explains Lies area p w → p < processes
+  is-process e (Promise.sound i h) = ⊎-elim
       (λ (high : processes ≤ p). absurd (omega (arith, e, code-is i h, refused-with-1 (i .0) p high)))
-      (λ (low : p < processes). known i low (λ s l k. ap (sentence p) (h s l k .1 ∙ told-reason s p low)))
+      (λ low. low)
       (le? processes p)
+  is-process e (Promise.unsound n m a same) = absurd (omega (arith, e, ap (λ (x : Answer). x .code) a))
+
+  pub is-known : w .answer .code ≡ 0 → Explains Lies area p w → Explained area p true (sentence p (meant (w .reason)))
+  is-known e (Promise.sound i h) =
+      let low = is-process e (Promise.sound i h) in
+      known i low (λ s l k. ap (sentence p) (h s l k .1 ∙ told-reason s p low))
   is-known e (Promise.unsound n m a same) = absurd (omega (arith, e, ap (λ (x : Answer). x .code) a))
 
   pub is-not-sound : w .answer .code ≡ 14 → Explains Lies area p w → (good : Bool) (text : List ℕ) → Refused notSound good text → Explained area p good text
@@ -69,34 +72,3 @@ module _ (area : List ℕ) (p : ℕ) (w : Code.Explained) where
       (λ (low : p < processes). absurd (e (code-is i h ∙ given (i .0) p low)))
       (le? processes p)
   is-nobody d e (Promise.unsound n m a same) good text r = absurd (d (ap (λ (x : Answer). x .code) a))
-
--- ---- which process is asked for
-
--- of every number that is no process's the same is told
-no-process : {area : List ℕ} {n : ℕ} {good : Bool} {text : List ℕ} → processes ≤ n → Explained area processes good text → Explained area n good text
-no-process high (unsound u) = unsound u
-no-process high (nobody i h) = nobody i high
-no-process high (known i low h) = absurd (omega (arith, low))
-
--- so a number that was read as far as the first of those is told of as it is
-as-read : (area : List ℕ) (n : ℕ) {good : Bool} {text : List ℕ} → Explained area (capped n) good text → Explained area n good text
-as-read area n t = ⊎-elim
-    (λ (high : processes ≤ n). no-process high (rw (le-leb processes n high) at t))
-    (λ (low : n < processes). rw (lt-leb processes n low) at t)
-    (le? processes n)
-
-about-read : (area : List ℕ) (n : ℕ) (good : Bool) (text : List ℕ) → About area (capped n) good text → About area n good text
-about-read area n good text t = go (eqb (length area) 0) t
-  where
-    go : (b : Bool) → (if b then Refused noState good text else Explained area (capped n) good text) → (if b then Refused noState good text else Explained area n good text)
-    go true u = u
-    go false u = as-read area n u
-
-module _ (area : List ℕ) (o : Option ℕ) (good : Bool) (text : List ℕ) where
-  pub tells-nothing : Nothing ≡ wantedOf o → Refused noNumber good text → Tells area o good text
-  tells-nothing e t = subst (λ (x : Option ℕ). Tells area x good text) (sym (nothing-read o e)) t
-
-  pub tells-number : (p : ℕ) → Number p ≡ wantedOf o → About area p good text → Tells area o good text
-  tells-number p e t =
-      let h = number-read o p e in
-      subst (λ (x : Option ℕ). Tells area x good text) (sym (h .read)) (about-read area (h .number) good text (rw (h .capped-so) at t))
