@@ -1,13 +1,11 @@
 -- The reason by a struct's numbers is the plain kernel's reason of the state that the struct holds; and from a verdict to the promise.
 -- Assumes nothing.
 use Prim.Native.Nat.{ℕ, _<_}
-use mathlib.Core.List.{List, []}
 use mathlib.Core.Logic.{_≢_, ⊎-elim}
 use mathlib.Core.Path.{_≡_, refl, sym, _∙_}
 use native.Mathlib.Omega.{arith}
-use lib.Dec.{eqb, leb}
 use borrow.Author.Tests.{eq-eqb, ne-eqb, leb-false}
-use Rattle.lists.specs.Lists.{if_then_else_, ahead}
+use Rattle.lists.specs.Lists.{ahead}
 use Rattle.lists.proofs.Laws.{same?}
 use Rattle.rings.proofs.Laws.{placed, elsewhere}
 use Rattle.queues.proofs.Ways.{standing-in, standing-nowhere}
@@ -25,12 +23,10 @@ use Rattle.procs.specs.Stands as Stands
 use Rattle.kernel.proofs.Judging.{runner-is, refused-call, accepted-call, judged-passed}
 use Rattle.kernel.specs.Holds.{Holds}
 use Rattle.kernel.specs.Judged.{Judged, refusedWith}
-use Rattle.kernel.specs.declared.Answer.{Answer}
 use Rattle.kernel.specs.declared.Kernel.{Kernel}
 use Rattle.verdicts.specs.declared.Verdict.{Verdict}
 use Rattle.reasons.specs.Reasons.{meant, Explains, refusals, runner, reasonAt}
 use Rattle.reasons.specs.declared.Explained.{Explained}
-use Rattle.reasons.specs.declared.Reason.{Reason}
 
 -- ---- the reason
 

@@ -1,17 +1,13 @@
 -- Laws of what is told: the answer to the question on the board, in the words of the promise.
 -- Assumes nothing.
 use Prim.Native.Nat.{ℕ, _≤_, _<_}
-use mathlib.Core.Bool.{Bool, true, false}
+use mathlib.Core.Bool.{Bool, true}
 use mathlib.Core.List.{List}
 use mathlib.Core.Logic.{_≢_, ⊎-elim}
-use mathlib.Core.Option.{Option}
-use mathlib.Core.Path.{_≡_, sym, ap, subst, _∙_}
+use mathlib.Core.Path.{_≡_, ap, _∙_}
 use native.Mathlib.Omega.{arith}
-use lib.Dec.{eqb}
-use lib.ListN.{length}
 use borrow.Author.Tests.{le-leb, lt-leb}
 use Rattle.lists.proofs.Laws.{le?}
-use Rattle.lists.specs.Lists.{if_then_else_}
 use Rattle.plain.specs.Calls.{Answer}
 use Rattle.plain.specs.Sizes.{processes}
 use Rattle.plain.specs.Sound.{Sound}

@@ -1,5 +1,4 @@
 -- `reasons::reason_of` meets its contract. Assumes nothing.
-use mathlib.Core.Path.{ap, _∙_}
 use borrow.Author.Needs.{needs}
 use borrow.Author.Tests.{eq-eqb, ne-eqb}
 use Rattle.queues.proofs.Ways.{standing-few}
