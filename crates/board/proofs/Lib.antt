@@ -1,4 +1,5 @@
 pub mod Blank
 pub mod Calls
+pub mod Seating
 pub mod Reasons
 pub mod Theorems

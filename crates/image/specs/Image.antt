@@ -22,6 +22,16 @@ nodes = processes + Sizes.queues
 abbrev pub queuesLong : ℕ
 queuesLong = nodes + nodes
 
+-- where the classes, the ticks left and the links on of the queues begin: behind the byte that says who runs
+abbrev pub classAt : ℕ
+classAt = 1
+
+abbrev pub ticksAt : ℕ
+ticksAt = classAt + processes
+
+abbrev pub nextAt : ℕ
+nextAt = ticksAt + processes
+
 abbrev pub procsLong : ℕ
 procsLong = 1 + processes + processes + queuesLong + 4 + 4
 

@@ -8,7 +8,7 @@ use Rattle.plain.specs.Sizes.{capacity, bufferSize, longest, slice}
 use Rattle.plain.specs.State.{State, fresh, spots, held, freeProcess, freeBuffer}
 use Rattle.plain.specs.Runs.{choose, chooseBelow, join, standDown, makeReady, goTo, remove, halt}
 use Rattle.plain.specs.Calls.{Call, create, end, tick, send, receive, perform, refusals, step, after}
-use Rattle.plain_laws.specs.History.{sent, gone, countAhead, ticksSeen, turnsBefore}
+use Rattle.plain_laws.specs.History.{sent, gone, countAhead, moments, ticksSeen, turnsBefore}
 
 -- the state that calls lead to from fresh
 unfoldable reached : List Call → State
@@ -22,16 +22,16 @@ equals = create 2 ∷ create 2 ∷ []
 ticks : List Call
 ticks = tick ∷ tick ∷ tick ∷ tick ∷ tick ∷ []
 
-bound-met : (countAhead (reached equals .procs) 2 ≡ 1) × (ticksSeen 2 (reached equals) ticks ≡ 3) × (turnsBefore 1 2 (reached equals) ticks ≡ 2)
-unfolding reached equals ticks countAhead ticksSeen turnsBefore
+bound-met : (countAhead (reached equals .procs) 2 ≡ 1) × (ticksSeen 2 (moments (reached equals) ticks) ≡ 3) × (turnsBefore 1 2 (moments (reached equals) ticks) ≡ 2)
+unfolding reached equals ticks countAhead moments ticksSeen turnsBefore
 bound-met = (refl, refl, refl)
 
 -- 1 is preempted by 3 after a tick and goes to the front: nobody is ahead of it, and it sees no tick before it runs again.
 preempted : List Call
 preempted = create 2 ∷ create 2 ∷ tick ∷ create 4 ∷ []
 
-front-waits-for-none : (countAhead (reached preempted .procs) 1 ≡ 0) × (ticksSeen 1 (reached preempted) (tick ∷ tick ∷ end ∷ tick ∷ []) ≡ 0) × (countAhead (reached preempted .procs) 2 ≡ 1)
-unfolding reached preempted countAhead ticksSeen
+front-waits-for-none : (countAhead (reached preempted .procs) 1 ≡ 0) × (ticksSeen 1 (moments (reached preempted) (tick ∷ tick ∷ end ∷ tick ∷ [])) ≡ 0) × (countAhead (reached preempted .procs) 2 ≡ 1)
+unfolding reached preempted countAhead moments ticksSeen
 front-waits-for-none = (refl, refl, refl)
 
 -- three accepted sends to mailbox 0: one to a waiter, one received later, one still queued

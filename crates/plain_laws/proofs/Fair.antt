@@ -2,27 +2,28 @@
 -- Assumes nothing.
 use Prim.Native.Nat.{ℕ, suc, _+_, _*_, _≤_, _<_}
 use mathlib.Core.Path.{_≡_, refl, sym, ap, _∙_, subst}
-use mathlib.Core.Bool.{Bool, true, false, not, _&&_, _||_, or-true, true≢false}
+use mathlib.Core.Bool.{Bool, true, false, not, _&&_, _||_, or-true, and-false, true≢false}
 use mathlib.Core.Logic.{_≢_, _⊎_, inl, inr, ⊎-elim}
 use mathlib.Core.List.{List, [], _∷_, _++_}
 use native.Mathlib.Omega.{arith}
-use lib.Dec.{eqb}
-use borrow.Author.Tests.{eq-eqb, ne-eqb, eqb-true}
+use lib.Dec.{eqb, leb}
+use borrow.Author.Tests.{eq-eqb, ne-eqb, eqb-true, lt-leb}
 use Rattle.lists.specs.Lists.{if_then_else_, put, occurs, without, total}
-use Rattle.lists.proofs.Laws.{either, or-false, same?, put-same, put-other, put-cases, one-same, occurs-rear, occurs-without-other, total-at, total-le, total-lt, total-times}
+use Rattle.lists.proofs.Laws.{either, or-false, same?, le?, put-same, put-other, put-cases, occurs-append, occurs-without-other, total-at, total-le, total-lt, total-times}
 use Rattle.plain.specs.Sizes.{processes}
 use Rattle.plain.specs.State.{Procs, State, level, places}
 use Rattle.plain.specs.Calls.{Call, step}
 use Rattle.plain.specs.Sound.{Seated, Sound}
 use Rattle.plain_laws.specs.Moves.{rid, leave, toRear, settle, Move, stay, idle, spend, again, rear, pause, halt, Others, none, also, Chain}
-use Rattle.plain_laws.specs.History.{kind, isTick, as-one, Ready, onDuty, leads, isAhead, countAhead, isOver, ticksSeen, turnsBefore}
+use Rattle.plain_laws.specs.History.{kind, isTick, as-one, isRefusal, Ready, onDuty, leads, isAhead, countAhead, isOver, Moment, moments, ticksSeen, turnsBefore, joiners, joined, overtaken}
 use Rattle.plain_laws.specs.Theorems.{Fair}
 use Rattle.plain_laws.proofs.Places.{runs-once, leave-gone, rear-other, rear-elsewhere, rear-there}
 use Rattle.plain_laws.proofs.Seats.{member, runner-range, queue-once, queued-rests, move-seated, chain-seated}
 use Rattle.plain_laws.proofs.Settle.{settle-kept}
 use Rattle.plain_laws.proofs.Frames.{slice-some}
 use Rattle.plain_laws.proofs.Sound.{step-sound, step-moved}
-use Rattle.plain_laws.proofs.Ahead.{leads-rear, leads-in, left-behind, duty-on, Alike, settle-alike}
+use Rattle.plain_laws.proofs.Rear.{Rejoins, rejoins}
+use Rattle.plain_laws.proofs.Ahead.{leads-rear, left-behind, duty-on, Alike, settle-alike}
 
 or-elim : (a b : Bool) → (a || b) ≡ true → (a ≡ true) ⊎ (b ≡ true)
 or-elim true b e = inl refl
@@ -59,51 +60,68 @@ module _ (n p : ℕ) (s : Procs) (k : Seated n s) (o : Ready s p) where
   p-rests : s .running ≢ p
   p-rests = queued-rests n s k c p o
 
-  -- y leaves its place; l is what then stands in p's queue
-  removed : (d y e t : ℕ) (m : Procs) → y ≢ p → m .running ≡ rid (s .running) y → m .class ≡ put (s .class) y e → m .ticks ≡ put (s .ticks) y t
-      → 1 ≤ occurs p (m .queue c) → ((x : ℕ) → leads x p (m .queue c) ≡ true → (x ≢ y) × (leads x p (s .queue c) ≡ true)) → (1 ≤ d → y ≡ s .running) → Fares d p s m
-  removed d y e t m apart run-is class-is ticks-are there behind falls =
-      let same-class : (x : ℕ) → x ≢ y → level m x ≡ level s x = λ x b. ap (λ (f : ℕ → ℕ). f x) class-is ∙ put-other (s .class) y e x b in
-      let p-class : level m p ≡ c = same-class p (λ b. apart (sym b)) in
-      let ran : (x : ℕ) → x ≢ 0 → x ≡ m .running → (x ≡ s .running) × (x ≢ y) = λ x z b. ⊎-elim
-      (λ (i : s .running ≡ y). absurd (z (b ∙ (run-is ∙ rw (eq-eqb (s .running) y i) refl))))
-      (λ (i : s .running ≢ y). let w : x ≡ s .running = b ∙ (run-is ∙ rw (ne-eqb (s .running) y i) refl) in (w, λ g. i (sym w ∙ g)))
-      (same? (s .running) y) in
-      let was : (x : ℕ) → isAhead m p x ≡ true → (x ≢ y) × (isAhead s p x ≡ true) = λ x a. ⊎-elim
-      (λ (b : onDuty m p x ≡ true).
-      let w = duty m p x b in
-      let v = ran x (w .1) (w .0) in
-      let cls : level s (s .running) ≡ c = ap (level s) (sym (v .0)) ∙ (sym (same-class x (v .1)) ∙ (w .2 ∙ p-class)) in
-      (v .1, rw (duty-on s p x (λ z. w .1 (v .0 ∙ z)) cls, eq-eqb (s .running) x (sym (v .0))) refl))
-      (λ (b : leads x p (m .queue (level m p)) ≡ true).
-      let w = behind x (subst (λ (i : ℕ). leads x p (m .queue i) ≡ true) p-class b) in
-      (w .0, rw (w .1) (or-true (onDuty s p x))))
-      (or-elim (onDuty m p x) (leads x p (m .queue (level m p))) a) in
-      record {
-        class = p-class;
-        ready = subst (λ (i : ℕ). 1 ≤ occurs p (m .queue i)) (sym p-class) there;
-        rests = λ i. p-rests (sym (ran p (omega (arith, p-used)) (sym i) .0));
-        kept = λ x a. let w = was x a in (w .1, subst (λ (f : ℕ → ℕ). f x ≤ s .ticks x) (sym ticks-are) (put-cases (λ (a : ℕ). a ≤ s .ticks x) (s .ticks) y t x (λ b. absurd (w .0 b)) (λ b. omega arith)));
-        spends = λ h b a. absurd (was (s .running) a .0 (sym (falls h)));
-      }
+  -- y has left its place for m; who stands before p in its queue then is another, and stood there before
+  module _ (y e t : ℕ) (m : Procs) (apart : y ≢ p) (run-is : m .running ≡ rid (s .running) y) (class-is : m .class ≡ put (s .class) y e)
+      (behind : (x : ℕ) → leads x p (m .queue c) ≡ true → (x ≢ y) × (leads x p (s .queue c) ≡ true)) where
+    same-class : (x : ℕ) → x ≢ y → level m x ≡ level s x
+    same-class x b = ap (λ (f : ℕ → ℕ). f x) class-is ∙ put-other (s .class) y e x b
+
+    p-class : level m p ≡ c
+    p-class = same-class p (λ b. apart (sym b))
+
+    ran : (x : ℕ) → x ≢ 0 → x ≡ m .running → (x ≡ s .running) × (x ≢ y)
+    ran x z b = ⊎-elim
+        (λ (i : s .running ≡ y). absurd (z (b ∙ (run-is ∙ rw (eq-eqb (s .running) y i) refl))))
+        (λ (i : s .running ≢ y). let w : x ≡ s .running = b ∙ (run-is ∙ rw (ne-eqb (s .running) y i) refl) in (w, λ g. i (sym w ∙ g)))
+        (same? (s .running) y)
+
+    -- who is ahead of p is not y, and was ahead before
+    was : (x : ℕ) → isAhead m p x ≡ true → (x ≢ y) × (isAhead s p x ≡ true)
+    was x a = ⊎-elim
+        (λ (b : onDuty m p x ≡ true).
+        let w = duty m p x b in
+        let v = ran x (w .1) (w .0) in
+        let cls : level s (s .running) ≡ c = ap (level s) (sym (v .0)) ∙ (sym (same-class x (v .1)) ∙ (w .2 ∙ p-class)) in
+        (v .1, rw (duty-on s p x (λ z. w .1 (v .0 ∙ z)) cls, eq-eqb (s .running) x (sym (v .0))) refl))
+        (λ (b : leads x p (m .queue (level m p)) ≡ true).
+        let w = behind x (subst (λ (i : ℕ). leads x p (m .queue i) ≡ true) p-class b) in
+        (w .0, rw (w .1) (or-true (onDuty s p x))))
+        (or-elim (onDuty m p x) (leads x p (m .queue (level m p))) a)
+
+    removed : (d : ℕ) → m .ticks ≡ put (s .ticks) y t → 1 ≤ occurs p (m .queue c) → (1 ≤ d → y ≡ s .running) → Fares d p s m
+    removed d ticks-are there falls = record {
+      class = p-class;
+      ready = subst (λ (i : ℕ). 1 ≤ occurs p (m .queue i)) (sym p-class) there;
+      rests = λ i. p-rests (sym (ran p (omega (arith, p-used)) (sym i) .0));
+      kept = λ x a. let w = was x a in (w .1, subst (λ (f : ℕ → ℕ). f x ≤ s .ticks x) (sym ticks-are) (put-cases (λ (a : ℕ). a ≤ s .ticks x) (s .ticks) y t x (λ b. absurd (w .0 b)) (λ b. omega arith)));
+      spends = λ h b a. absurd (was (s .running) a .0 (sym (falls h)));
+    }
 
   -- y goes to the rear of queue q
-  rear-fares : (d q y e t : ℕ) → y ≢ p → (1 ≤ d → y ≡ s .running) → Fares d p s (toRear q y e t s)
-  rear-fares d q y e t apart falls =
-      removed d y e t (toRear q y e t s) apart (unfold toRear leave in refl) (unfold toRear leave in refl) (unfold toRear leave in refl)
-      (omega (arith, rear-other y e t s q c p (λ b. apart (sym b))))
-      (λ x. ⊎-elim
-      (λ (i : c ≡ q).
-      let rear-of : (toRear q y e t s) .queue c ≡ without y (s .queue c) ++ (y ∷ []) = ap ((toRear q y e t s) .queue) i ∙ (rear-there y e t s q ∙ ap (λ (j : ℕ). without y (s .queue j) ++ (y ∷ [])) (sym i)) in
-      rw (rear-of, leads-rear x p (without y (s .queue c)) (y ∷ []) (omega (arith, occurs-without-other p y (s .queue c) (λ b. apart (sym b))))) (left-behind x p y (s .queue c) apart))
-      (λ (i : c ≢ q). rw (rear-elsewhere y e t s q c i) (left-behind x p y (s .queue c) apart))
-      (same? c q))
-      falls
+  module _ (q y e t : ℕ) (apart : y ≢ p) where
+    rear-leads : (x : ℕ) → leads x p (toRear q y e t s .queue c) ≡ true → (x ≢ y) × (leads x p (s .queue c) ≡ true)
+    rear-leads x = ⊎-elim
+        (λ (i : c ≡ q).
+        let rear-of : (toRear q y e t s) .queue c ≡ without y (s .queue c) ++ (y ∷ []) = ap ((toRear q y e t s) .queue) i ∙ (rear-there y e t s q ∙ ap (λ (j : ℕ). without y (s .queue j) ++ (y ∷ [])) (sym i)) in
+        rw (rear-of, leads-rear x p (without y (s .queue c)) (y ∷ []) (omega (arith, occurs-without-other p y (s .queue c) (λ b. apart (sym b))))) (left-behind x p y (s .queue c) apart))
+        (λ (i : c ≢ q). rw (rear-elsewhere y e t s q c i) (left-behind x p y (s .queue c) apart))
+        (same? c q)
+
+    rear-fares : (d : ℕ) → (1 ≤ d → y ≡ s .running) → Fares d p s (toRear q y e t s)
+    rear-fares d falls =
+        removed y e t (toRear q y e t s) apart (unfold toRear leave in refl) (unfold toRear leave in refl) rear-leads d (unfold toRear leave in refl)
+        (omega (arith, rear-other y e t s q c p (λ b. apart (sym b)))) falls
+
+    -- and is not ahead of p there
+    rear-behind : isAhead (toRear q y e t s) p y ≡ false
+    rear-behind = ⊎-elim
+        (λ a. absurd (was y e t (toRear q y e t s) apart (unfold toRear leave in refl) (unfold toRear leave in refl) rear-leads y a .0 refl))
+        (λ a. a) (either (isAhead (toRear q y e t s) p y))
 
   gone-fares : (y : ℕ) → y ≢ p → Fares 0 p s (leave y 0 0 s)
   unfolding leave
   gone-fares y apart =
-      removed 0 y 0 0 (leave y 0 0 s) apart refl refl refl (omega (arith, occurs-without-other p y (s .queue c) (λ b. apart (sym b)))) (λ x. left-behind x p y (s .queue c) apart) (λ h. absurd (omega arith))
+      removed y 0 0 (leave y 0 0 s) apart refl refl (λ x. left-behind x p y (s .queue c) apart) 0 refl (omega (arith, occurs-without-other p y (s .queue c) (λ b. apart (sym b)))) (λ h. absurd (omega arith))
 
   stay-fares : (d : ℕ) → (1 ≤ d → s .running ≡ 0) → Fares d p s s
   stay-fares d h = record {
@@ -125,9 +143,9 @@ module _ (n p : ℕ) (s : Procs) (k : Seated n s) (o : Ready s p) where
     kept = λ x a. (a, put-cases (λ (b : ℕ). b ≤ s .ticks x) (s .ticks) (s .running) (suc t) x (λ i. rw i (omega arith)) (λ i. omega arith));
     spends = λ h b a. rw (put-same (s .ticks) (s .running) (suc t)) (omega arith);
   })
-  move-fares d m (again z) = inr (rear-fares 1 (level s (s .running)) (s .running) (s .class (s .running)) n p-rests (λ h. refl))
-  move-fares d m (rear y e y₁ y₂ away he) = inr (rear-fares 0 e y e n (λ i. omega (arith, away c (k .in-class p), subst (λ (x : ℕ). occurs x (s .queue c) ≡ 0) i (away c (k .in-class p)))) (λ h. absurd (omega arith)))
-  move-fares d m (pause q z h₅ hq) = inr (rear-fares 0 q (s .running) (s .class (s .running)) n p-rests (λ h. absurd (omega arith)))
+  move-fares d m (again z) = inr (rear-fares (level s (s .running)) (s .running) (s .class (s .running)) n p-rests 1 (λ h. refl))
+  move-fares d m (rear y e y₁ y₂ away he) = inr (rear-fares e y e n (λ i. omega (arith, away c (k .in-class p), subst (λ (x : ℕ). occurs x (s .queue c) ≡ 0) i (away c (k .in-class p)))) 0 (λ h. absurd (omega arith)))
+  move-fares d m (pause q z h₅ hq) = inr (rear-fares q (s .running) (s .class (s .running)) n p-rests 0 (λ h. absurd (omega arith)))
   move-fares d m (halt y y₁) = ⊎-elim (λ (e : y ≡ p). inl (subst (λ (x : ℕ). places (leave y 0 0 s) x ≡ 0) e (leave-gone y 0 0 s y₁))) (λ e. inr (gone-fares y e)) (same? y p)
 
   -- and then who runs: p itself, or it fares
@@ -237,58 +255,107 @@ onward p s c k o =
     (λ (f : Fares d p (s .procs) (v .to)). rw (v .settled) (⊎-elim (λ e. inl (over-runs (settle (v .to)) p e)) (λ g. inr g) (settle-fares n p (s .procs) (k .seated) o d (v .to) seated f)))
     (chain-fares n p (slice-some s k) d (s .procs) (v .to) (k .seated) o (v .chain))
 
-over-sees-none : (p : ℕ) (s : State) (cs : List Call) → isOver (s .procs) p ≡ true → ticksSeen p s cs ≡ 0
-unfolding ticksSeen
+over-sees-none : (p : ℕ) (s : State) (cs : List Call) → isOver (s .procs) p ≡ true → ticksSeen p (moments s cs) ≡ 0
+unfolding ticksSeen moments
 over-sees-none p s [] e = refl
 over-sees-none p s (c ∷ cs) e = rw e refl
 
-sees : (p : ℕ) (s : State) (cs : List Call) (k : Sound s) (o : Ready (s .procs) p) → ticksSeen p s cs ≤ total processes (load (s .settings .slice) p (s .procs) (k .seated) o (s .procs .ticks) (s .procs))
-unfolding ticksSeen
+sees : (p : ℕ) (s : State) (cs : List Call) (k : Sound s) (o : Ready (s .procs) p) → ticksSeen p (moments s cs) ≤ total processes (load (s .settings .slice) p (s .procs) (k .seated) o (s .procs .ticks) (s .procs))
+unfolding ticksSeen moments
 sees p s [] k o = omega arith
 sees p s (c ∷ cs) k o =
     let s′ : State = (step s c) .next in
     let t : Bool = isTick (kind c) in
     let n : ℕ = s .settings .slice in
-    let rest : as-one (t && onDuty (s .procs) p (s .procs .running)) + ticksSeen p s′ cs ≤ total processes (load n p (s .procs) (k .seated) o (s .procs .ticks) (s .procs)) = ⊎-elim
+    let rest : as-one (t && onDuty (s .procs) p (s .procs .running)) + ticksSeen p (moments s′ cs) ≤ total processes (load n p (s .procs) (k .seated) o (s .procs .ticks) (s .procs)) = ⊎-elim
     (λ (e : isOver (s′ .procs) p ≡ true). omega (arith, over-sees-none p s′ cs e, tick-counts n p (s .procs) (k .seated) o t))
     (λ (f : Fares (as-one t) p (s .procs) (s′ .procs)). omega (arith, sum-falls n p (s .procs) (k .seated) o t (s′ .procs) f, sees p s′ cs (step-sound s k c) (f .ready)))
     (onward p s c k o) in
     ⊎-elim (λ e. rw e (omega arith)) (λ e. rw e rest) (either (isOver (s .procs) p))
 
 -- the first half
-few-ticks : (p : ℕ) (s : State) (cs : List Call) → Sound s → Ready (s .procs) p → ticksSeen p s cs ≤ s .settings .slice * countAhead (s .procs) p
+few-ticks : (p : ℕ) (s : State) (cs : List Call) → Sound s → Ready (s .procs) p → ticksSeen p (moments s cs) ≤ s .settings .slice * countAhead (s .procs) p
 few-ticks p s cs k o = omega (arith, sees p s cs k o, sum-bound (s .settings .slice) p (s .procs) (k .seated) o)
 
--- who is not ahead of p does not come to be
-nobody-passes : (x p : ℕ) (s : State) (cs : List Call) → Sound s → Ready (s .procs) p → isAhead (s .procs) p x ≡ false → turnsBefore x p s cs ≡ 0
-unfolding turnsBefore
+-- ---- the second half
+
+abbrev moment : State → Call → Moment
+moment s c = record { from = s .procs; call = c; answer = (step s c) .answer; to = (step s c) .next .procs }
+
+module _ (p : ℕ) (s : State) (c : Call) (k : Sound s) (o : Ready (s .procs) p) where
+  abbrev r′ : Procs
+  r′ = (step s c) .next .procs
+
+  -- who is not ahead of p does not come to be
+  stays-behind : Fares (as-one (isTick (kind c))) p (s .procs) r′ → (x : ℕ) → isAhead (s .procs) p x ≡ false → isAhead r′ p x ≡ false
+  stays-behind f x a = ⊎-elim (λ e. absurd (true≢false (sym (f .kept x e .0) ∙ a))) (λ e. e) (either (isAhead r′ p x))
+
+  -- who joins the rear is not ahead of p
+  joins-behind : isOver r′ p ≡ false → (x : ℕ) → 1 ≤ occurs x (joined (moment s c)) → isAhead r′ p x ≡ false
+  joins-behind e x h = go (isRefusal ((step s c) .answer)) refl h
+    where
+      n : ℕ
+      n = s .settings .slice
+
+      behind : Rejoins n (s .procs) x r′ → isAhead r′ p x ≡ false
+      behind j =
+          let q : ℕ = level (s .procs) p in
+          let out = j .away q (k .seated .in-class p) in
+          let apart : x ≢ p = λ i. omega (arith, subst (λ (y : ℕ). occurs y (s .procs .queue q) ≡ 0) i out) in
+          let m : Procs = toRear (j .class) x (j .class) n (s .procs) in
+          let f = rear-fares n p (s .procs) (k .seated) o (j .class) x (j .class) n apart 0 (λ h. absurd (omega arith)) in
+          let seated : Seated n m = move-seated n (s .procs) (k .seated) 0 m (slice-some s k) (rear x (j .class) (j .used) (j .inside) (j .away) (j .below)) in
+          ⊎-elim
+          (λ (i : (settle m) .running ≡ p). absurd (true≢false (sym (over-runs r′ p (rw (j .settled) i)) ∙ e)))
+          (λ (a : Alike p m (settle m)). rw (j .settled) (a .same x ∙ rear-behind n p (s .procs) (k .seated) o (j .class) x (j .class) n apart))
+          (settle-alike n p m seated (f .ready) (f .rests))
+
+      go : (t : Bool) → isRefusal ((step s c) .answer) ≡ t → 1 ≤ occurs x (if t then [] else joiners (s .procs) c) → isAhead r′ p x ≡ false
+      go true i h = absurd (omega arith)
+      go false i h = behind (rejoins s k c x i h)
+
+off-duty : (s : Procs) (p x : ℕ) → isAhead s p x ≡ false → onDuty s p x ≡ false
+off-duty s p x a = or-false (onDuty s p x) (leads x p (s .queue (level s p))) a .0
+
+nobody-passes : (x p : ℕ) (s : State) (cs : List Call) → Sound s → Ready (s .procs) p → isAhead (s .procs) p x ≡ false → turnsBefore x p (moments s cs) ≡ 0
+unfolding turnsBefore moments
 nobody-passes x p s [] k o a = refl
 nobody-passes x p s (c ∷ cs) k o a =
     let s′ : State = (step s c) .next in
     ⊎-elim (λ (e : isOver (s′ .procs) p ≡ true). rw e refl)
     (λ (f : Fares (as-one (isTick (kind c))) p (s .procs) (s′ .procs)).
-    let still : isAhead (s′ .procs) p x ≡ false = ⊎-elim (λ e. absurd (true≢false (sym (f .kept x e .0) ∙ a))) (λ e. e) (either (isAhead (s′ .procs) p x)) in
-    let off : onDuty (s′ .procs) p x ≡ false = or-false (onDuty (s′ .procs) p x) (leads x p (s′ .procs .queue (level (s′ .procs) p))) still .0 in
+    let still = stays-behind p s c k o f x a in
     ⊎-elim (λ (e : isOver (s′ .procs) p ≡ true). rw e refl)
-    (λ (e : isOver (s′ .procs) p ≡ false). rw e (rw off (omega (arith, nobody-passes x p s′ cs (step-sound s k c) (f .ready) still))))
+    (λ (e : isOver (s′ .procs) p ≡ false). rw (e, off-duty (s′ .procs) p x still) (omega (arith, nobody-passes x p s′ cs (step-sound s k c) (f .ready) still)))
     (either (isOver (s′ .procs) p)))
     (onward p s c k o)
 
--- who joined the rear of p's class, where p stands before it, is not ahead of p
-rear-behind : (n x p : ℕ) (s : Procs) (l : List ℕ) → Seated n s → s .queue (level s p) ≡ l ++ (x ∷ []) → 1 ≤ occurs p l → isAhead s p x ≡ false
-rear-behind n x p s l k e o =
-    let c : ℕ = level s p in
-    let twice : occurs x (s .queue c) ≡ occurs x l + 1 = ap (occurs x) e ∙ omega (arith, occurs-rear x x l, one-same x) in
-    let once = queue-once n s k c x (omega arith) in
-    let off : onDuty s p x ≡ false = ⊎-elim (λ b. absurd (queued-rests n s k c x (omega arith) (sym (duty s p x b .0)))) (λ b. b) (either (onDuty s p x)) in
-    let after : leads x p (s .queue c) ≡ false = ⊎-elim
-    (λ (b : leads x p (s .queue c) ≡ true). absurd (omega (arith, leads-in x p l (sym (leads-rear x p l (x ∷ []) o) ∙ (ap (leads x p) (sym e) ∙ b)))))
-    (λ b. b) (either (leads x p (s .queue c))) in
-    rw (off, after) refl
+-- those who have joined the rear meanwhile are not ahead of p, so none of them runs before it
+rear-waits : (late : List ℕ) (p : ℕ) (s : State) (cs : List Call) → Sound s → Ready (s .procs) p → ((x : ℕ) → 1 ≤ occurs x late → isAhead (s .procs) p x ≡ false) → overtaken late p (moments s cs) ≡ 0
+unfolding overtaken moments
+rear-waits late p s [] k o a = refl
+rear-waits late p s (c ∷ cs) k o a =
+    let s′ : State = (step s c) .next in
+    let w : ℕ = s′ .procs .running in
+    let since : List ℕ = joined (moment s c) ++ late in
+    ⊎-elim (λ (e : isOver (s′ .procs) p ≡ true). rw e refl)
+    (λ (f : Fares (as-one (isTick (kind c))) p (s .procs) (s′ .procs)). ⊎-elim (λ (e : isOver (s′ .procs) p ≡ true). rw e refl)
+    (λ (e : isOver (s′ .procs) p ≡ false).
+    let none : (x : ℕ) → 1 ≤ occurs x since → isAhead (s′ .procs) p x ≡ false = λ x h. ⊎-elim
+    (λ (i : 1 ≤ occurs x (joined (moment s c))). joins-behind p s c k o e x i)
+    (λ (i : occurs x (joined (moment s c)) < 1). stays-behind p s c k o f x (a x (omega (arith, occurs-append x (joined (moment s c)) late))))
+    (le? 1 (occurs x (joined (moment s c)))) in
+    let off : (leb 1 (occurs w since) && onDuty (s′ .procs) p w) ≡ false = ⊎-elim
+    (λ (i : 1 ≤ occurs w since). rw (off-duty (s′ .procs) p w (none w i)) (and-false (leb 1 (occurs w since))))
+    (λ (i : occurs w since < 1). rw (lt-leb 1 (occurs w since) i) refl)
+    (le? 1 (occurs w since)) in
+    rw (e, off) (omega (arith, rear-waits since p s′ cs (step-sound s k c) (f .ready) none)))
+    (either (isOver (s′ .procs) p)))
+    (onward p s c k o)
 
-pub fair : (s : State) (p : ℕ) → Sound s → Ready (s .procs) p → Fair s p
-fair s p k o = record {
-  few-ticks = λ cs. few-ticks p s cs k o;
-  nobody-passes = λ x cs e. nobody-passes x p s cs k o e;
-  rear-waits = λ x l cs e b. nobody-passes x p s cs k o (rear-behind (s .settings .slice) x p (s .procs) l (k .seated) e b);
+pub fair : (s : State) (p : ℕ) (cs : List Call) → Sound s → Ready (s .procs) p → Fair (s .settings .slice) (s .procs) p (moments s cs)
+fair s p cs k o = record {
+  few-ticks = few-ticks p s cs k o;
+  nobody-passes = λ x e. nobody-passes x p s cs k o e;
+  rear-waits = rear-waits [] p s cs k o (λ x h. absurd (omega arith));
 }

@@ -8,6 +8,7 @@ pub mod Accepted
 pub mod Refusals
 pub mod Sound
 pub mod Messages
+pub mod Rear
 pub mod Ahead
 pub mod Fair
 pub mod Why

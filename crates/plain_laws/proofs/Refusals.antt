@@ -10,7 +10,7 @@ use mathlib.Core.Logic.{_≢_, _⊎_, inl, inr, ⊎-elim}
 use mathlib.Core.List.{List, [], _∷_, _++_}
 use Rattle.lists.proofs.Laws.{either}
 use Rattle.plain.specs.State.{State}
-use Rattle.plain.specs.Calls.{Call, create, stop, end, yield, class, tick, send, receive, read, release, signal, wait, Refusal, Outcome, perform, refusals, refused, judge, step}
+use Rattle.plain.specs.Calls.{Call, create, stop, end, yield, class, tick, send, receive, read, release, signal, wait, Refusal, Outcome, perform, refusals, refused, judge, step, after}
 use Rattle.plain_laws.specs.History.{Passed, First, codes, inOrder, own, order, isRefusal, kind, isTick, as-one}
 use Rattle.plain_laws.proofs.Calls.{judged, accepted}
 use Rattle.plain_laws.proofs.Accepted.{accepts}
@@ -50,6 +50,11 @@ unchanged s c e = let f = only s c e in ap (λ (o : Outcome). o .next) (given s 
 pub settings-stay : (s : State) (c : Call) → (step s c) .next .settings ≡ s .settings
 unfolding step
 settings-stay s c = judged (λ (t : State). t .settings ≡ s .settings) (refusals s c) s (perform s c) refl (λ p. accepts s c .settings)
+
+pub after-settings : (s : State) (cs : List Call) → after s cs .settings ≡ s .settings
+unfolding after
+after-settings s [] = refl
+after-settings s (c ∷ cs) = after-settings ((step s c) .next) cs ∙ settings-stay s c
 
 -- ---- the codes of a call's own refusals
 

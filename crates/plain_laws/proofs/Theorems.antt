@@ -1,18 +1,19 @@
 -- The theorems, from their laws.
 -- Assumes nothing.
 use Prim.Native.Nat.{ℕ}
-use mathlib.Core.Path.{_≡_, refl, sym, ap, _∙_}
+use mathlib.Core.Path.{_≡_, refl, sym, ap, _∙_, subst}
 use mathlib.Core.Bool.{true≢false}
 use mathlib.Core.List.{List, [], _∷_, map}
 use native.Mathlib.Omega.{arith}
 use Rattle.lists.specs.Lists.{total, lowest}
 use Rattle.plain.specs.Sizes.{slice}
-use Rattle.plain.specs.State.{Settings, start, spots, freeProcess}
-use Rattle.plain.specs.Runs.{join, standDown, makeReady}
-use Rattle.plain.specs.Calls.{Call, Answer, create, perform, refusals, step, answers, after}
-use Rattle.plain_laws.specs.Theorems.{Soundness, Refusals, Messages, Fairness, Kernel, replies, AnswersAsPlain, UselessShutOut, OneReason}
+use Rattle.plain.specs.State.{Settings, start, usual, spots, freeProcess}
+use Rattle.plain.specs.Runs.{choose, chooseBelow, goTo, join, standDown, makeReady}
+use Rattle.plain.specs.Calls.{Call, Answer, create, yield, perform, refusals, step, answers, after}
+use Rattle.plain_laws.specs.History.{moments, overtaken, lastFirst}
+use Rattle.plain_laws.specs.Theorems.{Fair, Soundness, Refusals, Messages, Fairness, Kernel, replies, AnswersAsPlain, UselessShutOut, OneReason}
 use Rattle.plain_laws.proofs.Sound.{usual-set, start-sound, step-sound, after-sound}
-use Rattle.plain_laws.proofs.Refusals.{given, only, unchanged, settings-stay, in-order}
+use Rattle.plain_laws.proofs.Refusals.{given, only, unchanged, settings-stay, after-settings, in-order}
 use Rattle.plain_laws.proofs.Messages.{counted-from-start}
 use Rattle.plain_laws.proofs.Fair.{fair}
 use Rattle.plain_laws.proofs.Why as Why
@@ -27,12 +28,13 @@ pub messages : Messages
 messages = counted-from-start
 
 pub fairness : Fairness
-fairness x cs p z o = fair (after (start x) cs) p (after-sound (start x) cs (start-sound x z)) o
+fairness x cs later p z o = subst (λ (y : Settings). Fair (y .slice) (after (start x) cs .procs) p (moments (after (start x) cs) later)) (after-settings (start x) cs)
+    (fair (after (start x) cs) p later (after-sound (start x) cs (start-sound x z)) o)
 
--- ---- two creates from fresh
+-- ---- creates from fresh
 
-abbrev two : List Call
-two = create 2 ∷ create 2 ∷ []
+abbrev three : List Call
+three = create 2 ∷ create 2 ∷ create 2 ∷ []
 
 abbrev codes : List (Answer × List ℕ) → List ℕ
 codes l = map (λ (a : Answer × List ℕ). a .0 .code) l
@@ -40,27 +42,57 @@ codes l = map (λ (a : Answer × List ℕ). a .0 .code) l
 abbrev numbers : List (Answer × List ℕ) → List ℕ
 numbers l = map (λ (a : Answer × List ℕ). a .0 .number) l
 
-plainly : (x : Settings) → (codes (answers (start x) two) ≡ 0 ∷ 0 ∷ []) × (numbers (answers (start x) two) ≡ 1 ∷ 2 ∷ [])
+plainly : (x : Settings) → (codes (answers (start x) three) ≡ 0 ∷ 0 ∷ 0 ∷ []) × (numbers (answers (start x) three) ≡ 1 ∷ 2 ∷ 3 ∷ [])
 unfolding answers step refusals perform join standDown makeReady spots total lowest freeProcess slice
 plainly x = (refl, refl)
 
-apart : (a b : ℕ) → a ∷ b ∷ [] ≡ 1 ∷ 2 ∷ [] → a ≡ b → ⊥
-apart a b e d = let x : a ≡ 1 = cc in let y : b ≡ 2 = cc in omega arith
+-- a class that there is none of, after one create
+refused-later : (x : Settings) → codes (answers (start x) (create 2 ∷ create 5 ∷ [])) ≡ 0 ∷ 2 ∷ []
+unfolding answers step refusals perform join standDown makeReady spots total lowest freeProcess slice
+refused-later x = refl
+
+apart : (a b c : ℕ) → a ∷ b ∷ c ∷ [] ≡ 1 ∷ 2 ∷ 3 ∷ [] → (a ≡ b → ⊥) × (b ≡ c → ⊥)
+apart a b c e =
+    let x : a ≡ 1 = cc in
+    let y : b ≡ 2 = cc in
+    let z : c ≡ 3 = cc in
+    ((λ d. omega arith), (λ d. omega arith))
 
 module _ (x : Settings) (K : Kernel) (h : AnswersAsPlain x K) where
-  numbered : numbers (replies K (K .start) two) ≡ 1 ∷ 2 ∷ []
-  numbered = ap numbers (h two) ∙ plainly x .1
+  abbrev m₁ : K .Memory
+  m₁ = K .next (K .start) (create 2)
+
+  abbrev m₂ : K .Memory
+  m₂ = K .next m₁ (create 2)
+
+  abbrev numberAt : K .Memory → ℕ
+  numberAt m = K .reply m (create 2) .0 .number
+
+  numbered : numbers (replies K (K .start) three) ≡ 1 ∷ 2 ∷ 3 ∷ []
+  numbered = ap numbers (h three) ∙ plainly x .1
+
+  -- three creates give three numbers
+  differ : ((numberAt (K .start) ≡ numberAt m₁) → ⊥) × ((numberAt m₁ ≡ numberAt m₂) → ⊥)
+  differ = apart (numberAt (K .start)) (numberAt m₁) (numberAt m₂) numbered
 
   accepted : K .reply (K .start) (create 2) .0 .code ≡ 0
-  accepted = let e : codes (replies K (K .start) two) ≡ 0 ∷ 0 ∷ [] = ap codes (h two) ∙ plainly x .0 in cc
+  accepted = let e : codes (replies K (K .start) three) ≡ 0 ∷ 0 ∷ 0 ∷ [] = ap codes (h three) ∙ plainly x .0 in cc
+
+  no-class : K .reply m₁ (create 5) .0 .code ≡ 2
+  no-class = let e : codes (replies K (K .start) (create 2 ∷ create 5 ∷ [])) ≡ 0 ∷ 2 ∷ [] = ap codes (h (create 2 ∷ create 5 ∷ [])) ∙ refused-later x in cc
+
+last-first : overtaken [] 2 (map lastFirst (moments (after (start usual) (create 2 ∷ create 2 ∷ [])) (yield ∷ []))) ≡ 1
+unfolding overtaken moments after step refusals perform choose chooseBelow goTo join standDown makeReady spots total lowest freeProcess slice
+last-first = refl
 
 pub useless-shut-out : UselessShutOut
 useless-shut-out = record {
   refuses-all = λ x K r h. true≢false (sym (r (K .start) (create 2)) ∙ rw (accepted x K h) refl);
-  constant = λ x K a r h. apart (K .reply (K .start) (create 2) .0 .number) (K .reply (K .next (K .start) (create 2)) (create 2) .0 .number) (numbered x K h)
-      (ap (λ (x : Answer × List ℕ). x .0 .number) (r (K .start) (create 2) ∙ sym (r (K .next (K .start) (create 2)) (create 2))));
-  never-moves = λ x K r h. apart (K .reply (K .start) (create 2) .0 .number) (K .reply (K .next (K .start) (create 2)) (create 2) .0 .number) (numbered x K h)
-      (ap (λ (s : K .Memory). K .reply s (create 2) .0 .number) (sym (r (K .start) (create 2))));
+  constant = λ x K a r h. differ x K h .0 (ap (λ (x : Answer × List ℕ). x .0 .number) (r (K .start) (create 2) ∙ sym (r (m₁ x K h) (create 2))));
+  never-moves = λ x K r h. differ x K h .0 (ap (numberAt x K h) (sym (r (K .start) (create 2))));
+  first-only = λ x K r h. differ x K h .1 (ap (numberAt x K h) (sym (r (create 2) (create 2))));
+  success-only = λ x K r h. let a = r (create 2) (create 5) in let b = no-class x K h in omega arith;
+  last-first = last-first;
 }
 
 pub one-reason : OneReason

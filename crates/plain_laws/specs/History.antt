@@ -1,13 +1,15 @@
 -- What the theorems count and speak of, over any calls: ticks, turns, messages sent and gone, refusals passed.
 -- Assumes nothing.
-use Prim.Native.Nat.{ℕ, _+_, _≤_}
+use Prim.Native.Nat.{ℕ, _+_, _-_, _≤_}
 use mathlib.Core.Path.{_≡_}
 use mathlib.Core.Bool.{Bool, true, false, not, _&&_, _||_}
 use mathlib.Core.List.{List, [], _∷_, _++_}
-use lib.Dec.{eqb}
+use lib.Dec.{eqb, leb}
+use lib.ListN.{take}
 use Rattle.lists.specs.Lists.{if_then_else_, someone, total, occurs}
-use Rattle.plain.specs.Sizes.{processes, atMailbox}
-use Rattle.plain.specs.State.{Procs, State, level, unused}
+use Rattle.plain.specs.Sizes.{processes, atMailbox, atSemaphore}
+use Rattle.plain.specs.State.{Procs, State, level, unused, freeProcess}
+use Rattle.plain.specs.Runs.{standDown, pick}
 use Rattle.plain.specs.Calls.{Call, create, stop, end, yield, class, tick, send, receive, read, release, signal, wait, Answer, Refusal, Outcome, step}
 
 -- what a call is to the counts: a tick, a send to m, a receive from m, or neither
@@ -131,16 +133,62 @@ isTick (posts m) = false
 isTick (fetches m) = false
 isTick other = false
 
+-- A moment of a history: a call, what it answered, and how the processes stood before and after it.
+pub record Moment : Type 0 where
+  pub from : Procs
+  pub call : Call
+  pub answer : Answer
+  pub to : Procs
+
+-- ---- who joins the rear
+
+-- by a call that is not refused: "made ready", "joins the rear of its class", "joins the rear there", "as yield"
+abbrev pub joiners : Procs → Call → List ℕ
+joiners r (create c) = freeProcess r ∷ []
+joiners r (stop p) = []
+joiners r end = []
+joiners r yield = r .running ∷ []
+joiners r (class c) = if eqb c (r .class (r .running)) then [] else r .running ∷ []
+joiners r tick = if eqb (r .running) 0 || not (eqb (r .ticks (r .running) - 1) 0) then [] else r .running ∷ []
+joiners r (send m b) = take 1 (r .queue (atMailbox m))
+joiners r (receive m) = []
+joiners r (read room) = []
+joiners r release = []
+joiners r (signal k) = take 1 (r .queue (atSemaphore k))
+joiners r (wait k) = []
+
+abbrev pub joined : Moment → List ℕ
+joined m = if isRefusal (m .answer) then [] else joiners (m .from) (m .call)
+
+-- what a moment would be if the last one ran first: whoever joins the rear is chosen in the same call
+abbrev pub chosenAtOnce : List ℕ → Procs → Procs
+chosenAtOnce [] r = r
+chosenAtOnce (x ∷ l) r = pick x (standDown r)
+
+abbrev pub lastFirst : Moment → Moment
+lastFirst m = record { from = m .from; call = m .call; answer = m .answer; to = chosenAtOnce (joined m) (m .to) }
+
+-- ---- counted over the moments of a history
+
+-- the moments of the plain kernel
+unfoldable pub moments : State → List Call → List Moment
+moments s [] = []
+moments s (c ∷ cs) = let o : Outcome = step s c in record { from = s .procs; call = c; answer = o .answer; to = o .next .procs } ∷ moments (o .next) cs
+
 -- how many ticks fall while p's class runs, until p runs or is stopped
-unfoldable pub ticksSeen : ℕ → State → List Call → ℕ
-ticksSeen p s [] = 0
-ticksSeen p s (c ∷ cs) =
-    if isOver (s .procs) p then 0
-    else as-one (isTick (kind c) && onDuty (s .procs) p (s .procs .running)) + ticksSeen p (step s c .next) cs
+unfoldable pub ticksSeen : ℕ → List Moment → ℕ
+ticksSeen p [] = 0
+ticksSeen p (m ∷ ms) = if isOver (m .from) p then 0 else as-one (isTick (kind (m .call)) && onDuty (m .from) p (m .from .running)) + ticksSeen p ms
 
 -- how often a call leaves x running as one of p's class, until p runs or is stopped
-unfoldable pub turnsBefore : ℕ → ℕ → State → List Call → ℕ
-turnsBefore x p s [] = 0
-turnsBefore x p s (c ∷ cs) =
-    let r : Procs = step s c .next .procs in
-    if isOver r p then 0 else as-one (onDuty r p x) + turnsBefore x p (step s c .next) cs
+unfoldable pub turnsBefore : ℕ → ℕ → List Moment → ℕ
+turnsBefore x p [] = 0
+turnsBefore x p (m ∷ ms) = if isOver (m .to) p then 0 else as-one (onDuty (m .to) p x) + turnsBefore x p ms
+
+-- how often one who has joined the rear meanwhile, `late` before these moments, runs as one of p's class, until p runs or is stopped; also who joins and is chosen in the same call
+unfoldable pub overtaken : List ℕ → ℕ → List Moment → ℕ
+overtaken late p [] = 0
+overtaken late p (m ∷ ms) =
+    let x : ℕ = m .to .running in
+    let since : List ℕ = joined m ++ late in
+    if isOver (m .to) p then 0 else as-one (leb 1 (occurs x since) && onDuty (m .to) p x) + overtaken since p ms

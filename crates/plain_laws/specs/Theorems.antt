@@ -3,15 +3,14 @@
 use Prim.Native.Nat.{ℕ, _+_, _*_, _≤_, _<_}
 use mathlib.Core.Path.{_≡_}
 use mathlib.Core.Bool.{true, false}
-use mathlib.Core.List.{List, [], _∷_, _++_}
+use mathlib.Core.List.{List, [], _∷_, map}
 use lib.ListN.{length}
-use Rattle.lists.specs.Lists.{occurs}
-use Rattle.plain.specs.State.{Settings, State, start, usual, level}
-use Rattle.plain.specs.Calls.{Call, Answer, Refusal, refusals, refused, step, answers, after}
+use Rattle.plain.specs.State.{Procs, Settings, State, start, usual}
+use Rattle.plain.specs.Calls.{Call, create, yield, Answer, Refusal, refusals, refused, step, answers, after}
 use Rattle.plain.specs.Sizes.{processes}
 use Rattle.plain.specs.Sound.{Set, Sound}
 use Rattle.plain.specs.Why.{Reason, Says, reason, numbers}
-use Rattle.plain_laws.specs.History.{First, codes, inOrder, order, isRefusal, sent, gone, Ready, isAhead, countAhead, ticksSeen, turnsBefore}
+use Rattle.plain_laws.specs.History.{First, codes, inOrder, order, isRefusal, sent, gone, Ready, isAhead, countAhead, Moment, moments, ticksSeen, turnsBefore, overtaken, lastFirst}
 
 -- 1. A fresh state is sound with any settings x that may be set, the usual ones among them; every call keeps that, and so every state that calls lead to from fresh is sound. No call changes the settings.
 pub record Soundness : Type 0 where
@@ -32,21 +31,21 @@ pub record Refusals : Type 0 where
 abbrev pub Messages : Type 0
 Messages = (x : Settings) (m : ℕ) (cs : List Call) → sent m (start x) cs ≡ length (after (start x) cs .box m) + gone m (start x) cs
 
--- 4. Demand 3, for every p that is ready in a state that calls lead to from fresh, however it came to be, whatever is called then (cs).
--- The slice is the state's: that of x, and no call changes it (1). Nothing of it is used but that it is at least 1.
-pub record Fair (s : State) (p : ℕ) : Type 0 where
+-- 4. Demand 3, for every p that is ready in a state that calls lead to from fresh, however it came to be, whatever is called then.
+-- p is ready where the processes stand as in r, and `ms` is what follows. Nothing of the slice is used but that it is at least 1.
+pub record Fair (slice : ℕ) (r : Procs) (p : ℕ) (ms : List Moment) : Type 0 where
   -- "sees at most 3 k ticks fall while its class runs before it runs or is stopped", k of its class being ahead of it
-  pub few-ticks : (cs : List Call) → ticksSeen p s cs ≤ s .settings .slice * countAhead (s .procs) p
+  pub few-ticks : ticksSeen p ms ≤ slice * countAhead r p
   -- nobody who is not ahead of it runs as one of its class before it
-  pub nobody-passes : (x : ℕ) (cs : List Call) → isAhead (s .procs) p x ≡ false → turnsBefore x p s cs ≡ 0
-  -- "and nobody who joins the rear after it runs from there before it": x has joined the rear, p stands before it
-  pub rear-waits : (x : ℕ) (l : List ℕ) (cs : List Call) → s .procs .queue (level (s .procs) p) ≡ l ++ (x ∷ []) → 1 ≤ occurs p l → turnsBefore x p s cs ≡ 0
+  pub nobody-passes : (x : ℕ) → isAhead r p x ≡ false → turnsBefore x p ms ≡ 0
+  -- "and nobody who joins the rear after it runs from there before it", by whichever of these calls
+  pub rear-waits : overtaken [] p ms ≡ 0
 
 abbrev pub Fairness : Type 0
-Fairness = (x : Settings) (cs : List Call) (p : ℕ) → Set x → Ready (after (start x) cs .procs) p → Fair (after (start x) cs) p
+Fairness = (x : Settings) (cs later : List Call) (p : ℕ) → Set x → Ready (after (start x) cs .procs) p → Fair (x .slice) (after (start x) cs .procs) p (moments (after (start x) cs) later)
 
--- 5. A kernel that refuses everything, answers a constant or never moves would meet 4 alone: nobody ever becomes ready, or nobody behind another.
--- It does not answer as the plain kernel does, which demand 2 asks: two creates from fresh are accepted, with two different numbers.
+-- 5. "Useless kernels to shut out". One that refuses everything, answers a constant or never moves would meet 4 alone: nobody ever becomes ready, or nobody behind another.
+-- It does not answer as the plain kernel does, which demand 2 asks.
 pub record Kernel : Type 1 where
   pub Memory : Type 0
   pub start : Memory
@@ -64,6 +63,11 @@ pub record UselessShutOut : Type 1 where
   pub refuses-all : (x : Settings) (K : Kernel) → ((s : K .Memory) (c : Call) → isRefusal (K .reply s c .0) ≡ true) → AnswersAsPlain x K → ⊥
   pub constant : (x : Settings) (K : Kernel) (a : Answer × List ℕ) → ((s : K .Memory) (c : Call) → K .reply s c ≡ a) → AnswersAsPlain x K → ⊥
   pub never-moves : (x : Settings) (K : Kernel) → ((s : K .Memory) (c : Call) → K .next s c ≡ s) → AnswersAsPlain x K → ⊥
+  -- "one that does the first call and only reports success later": nothing moves after the first call, or every later one is a success
+  pub first-only : (x : Settings) (K : Kernel) → ((c d : Call) → K .next (K .next (K .start) c) d ≡ K .next (K .start) c) → AnswersAsPlain x K → ⊥
+  pub success-only : (x : Settings) (K : Kernel) → ((c d : Call) → K .reply (K .next (K .start) c) d .0 .code ≡ 0) → AnswersAsPlain x K → ⊥
+  -- and one that lets the last run first is not fair: 1 yields while 2 is ready, and runs again before 2
+  pub last-first : overtaken [] 2 (map lastFirst (moments (after (start usual) (create 2 ∷ create 2 ∷ [])) (yield ∷ []))) ≡ 1
 
 -- 6. "each process of each sound state has exactly one true reason, its numbers right": the one that is given. In numbers no two are the same.
 pub record OneReason : Type 0 where

@@ -7,3 +7,4 @@ pub mod Unused
 pub mod Kept
 pub mod Looks
 pub mod One
+pub mod Seating

@@ -9,9 +9,10 @@ use Rattle.plain.specs.Why as Plain
 use Rattle.plain.specs.Why.{reason, told}
 use Rattle.plain_laws.proofs.Theorems as Why
 use Rattle.promise.proofs.Runs.{meets, agree}
+use Rattle.promise.proofs.Theorems.{questions}
 use Rattle.kernel.proofs.Theorems.{one-answer}
 use Rattle.reasons.specs.Reasons.{meant}
-use Rattle.reasons.specs.Theorems.{OneExplanation, TrueReason}
+use Rattle.reasons.specs.Theorems.{OneExplanation, TrueReason, ExplainedAnywhere}
 use Rattle.reasons.specs.declared.Reason.{Reason}
 use Rattle.reasons.specs.declared.Reason.the-variants.{Unused, Running, Ready, Mailbox, Semaphore, Behind}
 
@@ -51,3 +52,6 @@ pub true-reason : TrueReason
 true-reason K Holds k s p w H S h x =
     let e = meets Holds x s H S .1 ∙ told-reason s p h in
     record { holds = rw e (Why.one-reason .holds s p S h); only = λ r t. Why.one-reason .only s p r S h t ∙ sym e }
+
+pub explained-anywhere : ExplainedAnywhere
+explained-anywhere K Holds p w = questions Holds _ _ _ _
