@@ -1,4 +1,4 @@
--- The answers of the paper's sample, and other lines that are written, computed.
+-- The answers of document 01's sample, and other lines that are written, computed.
 -- Assumes nothing.
 use Prim.Native.Nat.{ℕ}
 use Prim.Native.String.{String}

@@ -13,7 +13,7 @@ use borrow.Author.Tests.{ltb-true, ltb-false, lt-ltb, le-ltb}
 use Rattle.lists.specs.Lists.{if_then_else_}
 use Rattle.plain.specs.Calls.{Answer}
 use Rattle.answers.specs.Answer.{digit, digitsOf, decimal, line, readLine, hexPairs}
-use Rattle.answers.specs.Promises.{textRoom, shown, beforePairs}
+use Rattle.answers.specs.Promises.{textRoom, soFar, beforePairs}
 use Rattle.answers.proofs.AreaLaws.{pairs-length}
 use Rattle.answers.specs.declared.text.Text.{Text}
 
@@ -23,8 +23,8 @@ front-shown l i n b e h =
     rw (drop-cons (set l i b) i 0 inside, getD-set-same l i b 0 h, drop-set-lt (suc i) l i b (omega arith), ← e, add-one)
 
 -- the bytes from at on, as the code takes them
-pub text-part : (t : Text) (l : List ℕ) → length (t .bytes) ≡ textRoom → shown t ≡ l → take (textRoom - t .at) (drop (t .at) (t .bytes)) ≡ l
-text-part t l size e = take-all (textRoom - t .at) (shown t) (simp length-drop (omega arith)) ∙ e
+pub text-part : (t : Text) (l : List ℕ) → length (t .bytes) ≡ textRoom → soFar t ≡ l → take (textRoom - t .at) (drop (t .at) (t .bytes)) ≡ l
+text-part t l size e = take-all (textRoom - t .at) (soFar t) (simp length-drop (omega arith)) ∙ e
 
 -- ---- digits
 

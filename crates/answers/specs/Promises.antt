@@ -12,8 +12,8 @@ abbrev pub textRoom : ℕ
 textRoom = 34
 
 -- what stands in it
-abbrev pub shown : Text → List ℕ
-shown t = drop (t .at) (t .bytes)
+abbrev pub soFar : Text → List ℕ
+soFar t = drop (t .at) (t .bytes)
 
 -- what a read line has before the pairs
 abbrev pub beforePairs : Bool → List ℕ

@@ -4,7 +4,7 @@ mod text;
 
 ghost use Prim.Native.Nat.{_≤_};
 ghost use Rattle.answers.specs.Answer.{answer, bad, decimal, line, readLine};
-ghost use Rattle.answers.specs.Promises.{textRoom, shown};
+ghost use Rattle.answers.specs.Promises.{textRoom, soFar};
 ghost use Rattle.answers.specs.Written.{Written};
 use crate::text::Text;
 
@@ -21,7 +21,7 @@ pub fn put_bad(out: &mut [u8]) -> usize
 
 fn put_text(out: &mut [u8], t: Text) -> usize
     requires { ⌜ t .at ≤ textRoom ⌝ }
-    ensures { λ r. ⌜ Written (shown t) (now (out .entry)) (now (out .exit)) r ⌝ }
+    ensures { λ r. ⌜ Written (soFar t) (now (out .entry)) (now (out .exit)) r ⌝ }
 {
     let bytes = t.bytes;
     let at = t.at;

@@ -5,7 +5,7 @@ ghost use mathlib.Core.List.{[], _∷_, _++_};
 ghost use Prim.Native.Nat.{_+_, _%_, _≤_, _<_};
 ghost use Rattle.answers.specs.Ascii.{space};
 ghost use Rattle.answers.specs.Answer.{answer, decimal, digit, line};
-ghost use Rattle.answers.specs.Promises.{textRoom, shown, beforePairs};
+ghost use Rattle.answers.specs.Promises.{textRoom, soFar, beforePairs};
 
 pub(crate) struct Text {
     pub bytes: [u8; TEXT_ROOM],
@@ -13,7 +13,7 @@ pub(crate) struct Text {
 }
 
 pub(crate) fn nothing() -> Text
-    ensures { λ r. ⌜ (shown r ≡ []) × (r .at ≡ textRoom) ⌝ }
+    ensures { λ r. ⌜ (soFar r ≡ []) × (r .at ≡ textRoom) ⌝ }
 {
     let bytes = [0; TEXT_ROOM];
     Text {
@@ -24,7 +24,7 @@ pub(crate) fn nothing() -> Text
 
 fn front(t: Text, b: u8) -> Text
     requires { ⌜ (0 < t .at) × (t .at ≤ textRoom) ⌝ }
-    ensures { λ r. ⌜ (shown r ≡ b ∷ shown t) × (r .at + 1 ≡ t .at) ⌝ }
+    ensures { λ r. ⌜ (soFar r ≡ b ∷ soFar t) × (r .at + 1 ≡ t .at) ⌝ }
 {
     let mut bytes = t.bytes;
     let at = t.at - 1;
@@ -34,7 +34,7 @@ fn front(t: Text, b: u8) -> Text
 
 // What stands between the numbers and the pairs in the line of a read: a space, and a dash where there are none.
 pub(crate) fn before_pairs(none: bool) -> Text
-    ensures { λ r. ⌜ (shown r ≡ beforePairs none) × (32 ≤ r .at) × (r .at ≤ textRoom) ⌝ }
+    ensures { λ r. ⌜ (soFar r ≡ beforePairs none) × (32 ≤ r .at) × (r .at ≤ textRoom) ⌝ }
 {
     if none {
         return front(front(nothing(), b'-'), b' ');
@@ -50,7 +50,7 @@ fn last_digit(n: u32) -> u8
 
 pub(crate) fn decimal(t: Text, n: u32) -> Text
     requires { ⌜ (10 ≤ t .at) × (t .at ≤ textRoom) ⌝ }
-    ensures { λ r. ⌜ (shown r ≡ decimal n ++ shown t) × (t .at ≤ r .at + 10) × (r .at ≤ t .at) ⌝ }
+    ensures { λ r. ⌜ (soFar r ≡ decimal n ++ soFar t) × (t .at ≤ r .at + 10) × (r .at ≤ t .at) ⌝ }
 {
     let mut text = front(t, last_digit(n));
     let mut v = n / 10;
@@ -63,14 +63,14 @@ pub(crate) fn decimal(t: Text, n: u32) -> Text
 
 fn spaced(t: Text, n: u32) -> Text
     requires { ⌜ (11 ≤ t .at) × (t .at ≤ textRoom) ⌝ }
-    ensures { λ r. ⌜ (shown r ≡ space ∷ (decimal n ++ shown t)) × (t .at ≤ r .at + 11) × (r .at ≤ t .at) ⌝ }
+    ensures { λ r. ⌜ (soFar r ≡ space ∷ (decimal n ++ soFar t)) × (t .at ≤ r .at + 11) × (r .at ≤ t .at) ⌝ }
 {
     front(decimal(t, n), b' ')
 }
 
 pub(crate) fn numbers(t: Text, code: u32, number: u32, running: u32) -> Text
     requires { ⌜ (32 ≤ t .at) × (t .at ≤ textRoom) ⌝ }
-    ensures { λ r. ⌜ (shown r ≡ line (answer code number running) ++ shown t) × (r .at ≤ textRoom) ⌝ }
+    ensures { λ r. ⌜ (soFar r ≡ line (answer code number running) ++ soFar t) × (r .at ≤ textRoom) ⌝ }
 {
     decimal(spaced(spaced(t, running), number), code)
 }

@@ -7,7 +7,6 @@ use native.Mathlib.Omega.{arith}
 use lib.ListN.{length, take, drop, length-append, length-map}
 use lib.Seq.{take-at, drop-at}
 use Rattle.plain.specs.Sizes.{processes}
-use Rattle.plain.specs.State.{State}
 use Rattle.promise.specs.Theorems.{Seats}
 use Rattle.sizes.specs.declared.Pid.{Pid}
 use Rattle.queues.specs.Queue.{num, tablesOf}

@@ -13,7 +13,8 @@ use Rattle.lists.specs.Lists.{someone}
 use Rattle.rings.proofs.Laws.{one-reading}
 use Rattle.rings.proofs.Looks.{first-some, first-none}
 use Rattle.rings.specs.Moves.{first}
-use Rattle.rings.specs.Walk.{Says, Stand}
+use Rattle.rings.specs.Decides.{Decides}
+use Rattle.rings.specs.Walk.{Stand}
 use Rattle.boxes.specs.Box as Box
 use Rattle.boxes.specs.Box.{num}
 use Rattle.plain.specs.Sizes.{slice, mailboxes, buffers, semaphores}
@@ -31,11 +32,11 @@ use Rattle.kernel.proofs.Reading.{top}
 use Rattle.kernel.proofs.Whole.{fits, empty-bit, whole}
 
 module _ (k : Kernel) where
-  pub not-seated : (ok : Bool) (at : List ℕ) → not ok ≡ true → Seats.Answer slice (Stands.numbers (k .procs)) ok at → IsSound k → ⊥
+  pub not-seated : (ok : Bool) (at : List ℕ) → not ok ≡ true → Seats.Decision slice (Stands.numbers (k .procs)) ok at → IsSound k → ⊥
   not-seated true at e a s = true≢false (sym e)
   not-seated false at e (never, z) (s, H, S) = never (s .procs) (record { keeps = H .procs; seated = rw (slice-is H) (S .seated); highest = S .highest })
 
-  pub not-stocked : (ok : Bool) → not ok ≡ true → Stock.Answer (Carries.numbers (k .mail)) ok → IsSound k → ⊥
+  pub not-stocked : (ok : Bool) → not ok ≡ true → Stock.Decision (Carries.numbers (k .mail)) ok → IsSound k → ⊥
   not-stocked true e a s = true≢false (sym e)
   not-stocked false e never (s, H, S) = never (s .box) (s .hand) (record { carries = H .mail; mail = S .mail })
 
@@ -85,8 +86,8 @@ module _ (k : Kernel) where
               (λ p h h′. rw (sym (runs r (P .keeps .stands))) (F .others p h h′)),
         )
 
-  pub decided : length (k .count) ≡ semaphores → ((i : ℕ) → getD (k .count) i 0 ≤ 65535) → (ok : Bool) (at : List ℕ) → not ok ≡ false → Seats.Answer slice (Stands.numbers (k .procs)) ok at
-      → (stocked : Bool) → not stocked ≡ false → Stock.Answer (Carries.numbers (k .mail)) stocked → (b : Bool) → Says b (All at) → Says b (IsSound k)
+  pub decided : length (k .count) ≡ semaphores → ((i : ℕ) → getD (k .count) i 0 ≤ 65535) → (ok : Bool) (at : List ℕ) → not ok ≡ false → Seats.Decision slice (Stands.numbers (k .procs)) ok at
+      → (stocked : Bool) → not stocked ≡ false → Stock.Decision (Carries.numbers (k .mail)) stocked → (b : Bool) → Decides b (All at) → Decides b (IsSound k)
   decided long low false at e a o g c b f = absurd (true≢false e)
   decided long low true at e a false g c b f = absurd (true≢false g)
   decided long low true at e (r, P, A) true g (box, hand, Q) true f = sound P A Q long low f

@@ -20,7 +20,8 @@ use Rattle.verdicts.specs.Chain.{found}
 use Rattle.verdicts.specs.declared.Facts.{Facts}
 use Rattle.verdicts.specs.declared.Verdict.{Verdict}
 use Rattle.kernel.specs.Holds.{Holds}
-use Rattle.kernel.specs.Judged.{Gathered, Judged}
+use Rattle.kernel.specs.Facts.{Gathered}
+use Rattle.kernel.specs.Judged.{Judged}
 use Rattle.promise.specs.Promise.{noStore}
 use Rattle.kernel.specs.declared.Kernel.{Kernel}
 use Rattle.kernel.proofs.Judging.{runner-is, judged-by}

@@ -5,24 +5,16 @@ use mathlib.Core.List.{List}
 use mathlib.Core.Path.{_≡_}
 use lib.Dec.{eqb}
 use Rattle.lists.specs.Lists.{if_then_else_}
-use Rattle.rings.specs.Walk.{Says}
 use Rattle.plain.specs.Calls.{Refusal}
 use Rattle.plain.specs.Sound.{Sound}
 use Rattle.plain.specs.State.{State}
 use Rattle.procs.specs.Stands as Procs
 use Rattle.mail.specs.Carries as Mail
 use Rattle.verdicts.specs.Chain.{verdict, found}
-use Rattle.verdicts.specs.declared.Facts.{Facts}
 use Rattle.verdicts.specs.declared.Verdict.{Verdict}
-use Rattle.kernel.specs.Holds.{settingsOf, Holds, IsSound}
+use Rattle.kernel.specs.Holds.{Holds, IsSound}
 use Rattle.kernel.specs.declared.Done.{Done}
 use Rattle.kernel.specs.declared.Kernel.{Kernel}
-
--- the facts f are those of k
-pub record Gathered (k : Kernel) (f : Facts) : Type 0 where
-  pub sound : Says (f .sound) (IsSound k)
-  pub runner : f .runner .0 ≡ k .procs .running .0
-  pub slice : f .slice ≡ settingsOf k .slice
 
 -- the verdict v on a call with the refusals rs, in state k
 pub data Judged (rs : State → List Refusal) (k : Kernel) (v : Verdict) : Type 0 where

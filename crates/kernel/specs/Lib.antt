@@ -1,4 +1,5 @@
 pub mod Holds
 pub mod Promise
 pub mod Theorems
+pub mod Facts
 pub mod Judged

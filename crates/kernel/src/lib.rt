@@ -2,7 +2,8 @@
 ghost use mathlib.Core.Path.{_≡_};
 ghost use Rattle.plain.specs.State.{fresh};
 ghost use Rattle.kernel.specs.Holds.{Holds};
-ghost use Rattle.kernel.specs.Judged.{Gathered, answered, refusedWith};
+ghost use Rattle.kernel.specs.Facts.{Gathered};
+ghost use Rattle.kernel.specs.Judged.{answered, refusedWith};
 use mail::Mail;
 use procs::Procs;
 use verdicts::Facts;

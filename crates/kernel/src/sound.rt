@@ -1,12 +1,12 @@
 // Whether a state is sound, whatever stands in its fields: its processes, its mail, and what each asks of the other.
-ghost use Rattle.rings.specs.Walk.{Says};
+ghost use Rattle.rings.specs.Decides.{Decides};
 ghost use Rattle.kernel.specs.Holds.{IsSound};
 use crate::Kernel;
 use crate::SLICE;
 
 impl Kernel {
     pub fn is_sound(self) -> bool
-        ensures { λ r. ⌜ Says r (IsSound self) ⌝ }
+        ensures { λ r. ⌜ Decides r (IsSound self) ⌝ }
     {
         let k = self.procs;
         let found = seats::seated(k, SLICE);

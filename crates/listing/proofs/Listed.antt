@@ -18,7 +18,7 @@ use Rattle.plain.specs.State.{State}
 use Rattle.kernel.proofs.Judging.{runner-is, refused-call, accepted-call, judged-passed}
 use Rattle.kernel.specs.Holds.{Holds}
 use Rattle.kernel.specs.Judged.{Judged, refusedWith}
-use Rattle.kernel.specs.Promise.{Call}
+use Rattle.kernel.specs.Promise.{Promised}
 use Rattle.kernel.specs.declared.Answer.{Answer}
 use Rattle.kernel.specs.declared.Kernel.{Kernel}
 use Rattle.verdicts.specs.declared.Verdict.{Verdict}
@@ -26,7 +26,7 @@ use Rattle.plain_laws.proofs.Refusals.{Proper}
 use Rattle.image.specs.Image.{Sized, Read}
 use Rattle.board.proofs.Calls.{asked}
 use Rattle.rows.proofs.Rows.{row-is}
-use Rattle.rows.specs.Rows.{shown}
+use Rattle.rows.specs.Row.{asRow}
 use Rattle.rows.specs.declared.Row.{Row}
 use Rattle.listing.specs.Allowed.{refusals, allowed}
 use Rattle.listing.specs.Listed.{Tabled, Lists}
@@ -51,14 +51,14 @@ module _ (ys : List Row) (k : Kernel) (v : Verdict) where
   later = filled ys k (allowed v)
 
   abbrev Listing : Type 0
-  Listing = Call (λ s. listing s (length ys)) (λ s. Tabled s ys later) (later ≡ ys) k (refusedWith k v)
+  Listing = Promised (λ s. listing s (length ys)) (λ s. Tabled s ys later) (later ≡ ys) k (refusedWith k v)
 
   -- what is written where nothing refuses
   written : (s : State) → Holds k s → ltb (length ys) processes ≡ false → Tabled s ys (filled ys k processes)
   unfolding listing
   written s H t = record { long = filled-length ys k processes; at = λ i d. rw t (at i d (ltb i processes) refl) }
     where
-      at : (i : ℕ) (d : Row) (b : Bool) → ltb i processes ≡ b → getD (filled ys k processes) i d ≡ (if b then shown (row s i) else getD ys i d)
+      at : (i : ℕ) (d : Row) (b : Bool) → ltb i processes ≡ b → getD (filled ys k processes) i d ≡ (if b then asRow (row s i) else getD ys i d)
       at i d true e = among ys k processes i d (ltb-true i processes e) (ltb-false (length ys) processes t) ∙ row-is H i (ltb-true i processes e)
       at i d false e = past ys k processes i d (ltb-false i processes e)
 

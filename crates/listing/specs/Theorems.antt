@@ -18,10 +18,10 @@ use Rattle.listing.specs.Listed.{Tabled, Lists}
 abbrev pub OneListing : Type 0
 OneListing = (rows later later′ : List Row) (area : List ℕ) (a a′ : Answer) → Lists rows later area a → Lists rows later′ area a′ → (a ≡ a′) × (later ≡ later′)
 
--- 2. A refused listing leaves every row.
+-- 2. Demand 1 (docs/KERNEL.md): a refused listing leaves every row.
 abbrev pub RefusedKeepsRows : Type 0
 RefusedKeepsRows = (rows later : List Row) (area : List ℕ) (a : Answer) → Lists rows later area a → isRefusal (said a) ≡ true → later ≡ rows
 
--- 3. Demand 2: a listing at any moment of a run is answered as the plain kernel's, with the plain rows of the state reached then.
+-- 3. Demand 2 (docs/KERNEL.md): a listing at any moment of a run is answered as the plain kernel's, with the plain rows of the state reached then.
 abbrev pub ListedAnywhere : Type 1
 ListedAnywhere = (rows later : List Row) (a : Answer) → Anywhere Lies (λ s. Plain.listing s (length rows)) (λ s. Tabled s rows later) (later ≡ rows) (said a)

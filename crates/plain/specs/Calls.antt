@@ -132,7 +132,7 @@ perform s release = done 0 (give (caller s) none s)
 perform s (signal k) = done 0 (wake k (s .procs .queue (atSemaphore k)) s)
 perform s (wait k) = claim k (s .count k) s
 
--- ---- what is refused: each call's refusals in the paper's order, each with its code, its number, and whether it holds
+-- ---- what is refused: each call's refusals in the order of document 01, each with its code, its number, and whether it holds
 -- 14 and 15 are judged before these and belong to the code: a plain state is sound if calls led to it, and its messages carry their own bytes.
 
 pub record Refusal : Type 0 where

@@ -18,7 +18,7 @@ use Rattle.plain_laws.specs.Moves.{rid, leave, toRear, settle, Move, sta
 use Rattle.plain_laws.specs.History.{kind, isTick, as-one, isRefusal, Ready, onDuty, leads, isAhead, countAhead, isOver, Moment, moments, ticksSeen, turnsBefore, joiners, joined, overtaken}
 use Rattle.plain_laws.specs.Theorems.{Fair}
 use Rattle.plain_laws.proofs.Places.{runs-once, leave-gone, rear-other, rear-elsewhere, rear-there}
-use Rattle.plain_laws.proofs.Seats.{member, runner-range, queue-once, queued-rests, move-seated, chain-seated}
+use Rattle.plain_laws.proofs.Seats.{member, runner-range, queued-rests, move-seated, chain-seated}
 use Rattle.plain_laws.proofs.Settle.{settle-kept}
 use Rattle.plain_laws.proofs.Frames.{slice-some}
 use Rattle.plain_laws.proofs.Sound.{step-sound, step-moved}

@@ -14,7 +14,7 @@ use Rattle.lists.proofs.Laws.{either, same?, or-false, one-other}
 use Rattle.plain.specs.Sizes.{processes, classes, atMailbox, atSemaphore}
 use Rattle.plain.specs.State.{Procs, State, line, rank, freeProcess, freeBuffer}
 use Rattle.plain.specs.Runs.{makeReady, goTo}
-use Rattle.plain.specs.Calls.{Call, create, stop, end, yield, class, tick, send, receive, read, release, signal, wait, Outcome, Refusal, perform, refusals, refused, judge, step, yielded, ticked, regraded, deliver, wake}
+use Rattle.plain.specs.Calls.{Call, create, stop, end, yield, class, tick, send, receive, read, release, signal, wait, Outcome, Refusal, perform, refusals, judge, step, yielded, ticked, regraded, deliver, wake}
 use Rattle.plain.specs.Sound.{Sound}
 use Rattle.plain_laws.specs.Moves.{toRear, settle, Away}
 use Rattle.plain_laws.specs.History.{Passed, codes, isRefusal, joiners}

@@ -21,7 +21,7 @@ first-given [] r ys s o p h = rw h
 first-given (x ∷ xs) r ys s o p h = rw (p .0) (first-given xs r ys s o (p .1) h)
 
 -- in a list of refusals one is the first that holds, or none holds
-find : (rs : List Refusal) → ((r : Refusal) × First rs r) ⊎ Passed rs
+pub find : (rs : List Refusal) → ((r : Refusal) × First rs r) ⊎ Passed rs
 find [] = inr tt
 find (x ∷ rs) = ⊎-elim
     (λ (e : x .holds ≡ true). inl (x, record { before = []; behind = rs; whole = refl; passed = tt; holds = e }))
@@ -92,7 +92,7 @@ pub each-code : (P : ℕ → Type 0) (s : State) (c : Call) → Every P own → 
 each-code P s c = among P (codes (refusals s c)) own (own-codes s c .0)
 
 -- a number that is none of these may stand before the order
-skip : (o : ℕ) (ks os : List ℕ) → Every (λ k. k ≢ o) ks → inOrder ks os ≡ true → inOrder ks (o ∷ os) ≡ true
+pub skip : (o : ℕ) (ks os : List ℕ) → Every (λ k. k ≢ o) ks → inOrder ks os ≡ true → inOrder ks (o ∷ os) ≡ true
 skip o [] os d e = refl
 skip o (k ∷ ks) os d e = rw (ne-eqb k o (d .0)) e
 

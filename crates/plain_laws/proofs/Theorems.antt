@@ -11,7 +11,8 @@ use Rattle.plain.specs.State.{Settings, start, usual, spots, freeProcess}
 use Rattle.plain.specs.Runs.{choose, chooseBelow, goTo, join, standDown, makeReady}
 use Rattle.plain.specs.Calls.{Call, Answer, create, yield, perform, refusals, step, answers, after}
 use Rattle.plain_laws.specs.History.{moments, overtaken, lastFirst}
-use Rattle.plain_laws.specs.Theorems.{Fair, Soundness, Refusals, Messages, Fairness, Kernel, replies, AnswersAsPlain, UselessShutOut, OneReason}
+use Rattle.plain_laws.specs.Reasons.{OneReason}
+use Rattle.plain_laws.specs.Theorems.{Fair, Soundness, Refusals, Messages, Fairness, Kernel, replies, AnswersAsPlain, UselessShutOut}
 use Rattle.plain_laws.proofs.Sound.{usual-set, start-sound, step-sound, after-sound}
 use Rattle.plain_laws.proofs.Refusals.{given, only, unchanged, settings-stay, after-settings, in-order}
 use Rattle.plain_laws.proofs.Messages.{counted-from-start}

@@ -1,3 +1,4 @@
 pub mod Moves
 pub mod History
 pub mod Theorems
+pub mod Reasons

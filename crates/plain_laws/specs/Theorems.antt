@@ -1,15 +1,13 @@
 -- The theorems about the plain kernel, as statements. Each is proved under its own name in proofs/Theorems.antt.
 -- Assumes nothing.
-use Prim.Native.Nat.{ℕ, _+_, _*_, _≤_, _<_}
+use Prim.Native.Nat.{ℕ, _+_, _*_, _≤_}
 use mathlib.Core.Path.{_≡_}
 use mathlib.Core.Bool.{true, false}
 use mathlib.Core.List.{List, [], _∷_, map}
 use lib.ListN.{length}
 use Rattle.plain.specs.State.{Procs, Settings, State, start, usual}
 use Rattle.plain.specs.Calls.{Call, create, yield, Answer, Refusal, refusals, refused, step, answers, after}
-use Rattle.plain.specs.Sizes.{processes}
 use Rattle.plain.specs.Sound.{Set, Sound}
-use Rattle.plain.specs.Why.{Reason, Says, reason, numbers}
 use Rattle.plain_laws.specs.History.{First, codes, inOrder, order, isRefusal, sent, gone, Ready, isAhead, countAhead, Moment, moments, ticksSeen, turnsBefore, overtaken, lastFirst}
 
 -- 1. A fresh state is sound with any settings x that may be set, the usual ones among them; every call keeps that, and so every state that calls lead to from fresh is sound. No call changes the settings.
@@ -31,7 +29,7 @@ pub record Refusals : Type 0 where
 abbrev pub Messages : Type 0
 Messages = (x : Settings) (m : ℕ) (cs : List Call) → sent m (start x) cs ≡ length (after (start x) cs .box m) + gone m (start x) cs
 
--- 4. Demand 3, for every p that is ready in a state that calls lead to from fresh, however it came to be, whatever is called then.
+-- 4. Demand 3 (docs/KERNEL.md), for every p that is ready in a state that calls lead to from fresh, however it came to be, whatever is called then.
 -- p is ready where the processes stand as in r, and `ms` is what follows. Nothing of the slice is used but that it is at least 1.
 pub record Fair (slice : ℕ) (r : Procs) (p : ℕ) (ms : List Moment) : Type 0 where
   -- "sees at most 3 k ticks fall while its class runs before it runs or is stopped", k of its class being ahead of it
@@ -68,9 +66,3 @@ pub record UselessShutOut : Type 1 where
   pub success-only : (x : Settings) (K : Kernel) → ((c d : Call) → K .reply (K .next (K .start) c) d .0 .code ≡ 0) → AnswersAsPlain x K → ⊥
   -- and one that lets the last run first is not fair: 1 yields while 2 is ready, and runs again before 2
   pub last-first : overtaken [] 2 (map lastFirst (moments (after (start usual) (create 2 ∷ create 2 ∷ [])) (yield ∷ []))) ≡ 1
-
--- 6. "each process of each sound state has exactly one true reason, its numbers right": the one that is given. In numbers no two are the same.
-pub record OneReason : Type 0 where
-  pub holds : (s : State) (p : ℕ) → Sound s → p < processes → Says (s .procs) p (reason s p)
-  pub only : (s : State) (p : ℕ) (r : Reason) → Sound s → p < processes → Says (s .procs) p r → r ≡ reason s p
-  pub told-apart : (r r′ : Reason) → numbers r ≡ numbers r′ → r ≡ r′

@@ -24,7 +24,7 @@ use Rattle.plain_laws.proofs.Refusals.{judge-cases, nonzero}
 use Rattle.plain_laws.specs.History.{Passed}
 use Rattle.promise.specs.Lent.{Lent, lends}
 use Rattle.promise.specs.Promise.{noStore, withStore, written, storeAfter, roomAfter, inStore, StoredAll, Stored}
-use Rattle.promise.specs.Theorems.{shown}
+use Rattle.promise.specs.Theorems.{copied}
 use Rattle.promise.proofs.Buffers.{anew-long, anew-there, other-kept}
 
 pub start-stored : (x : Settings) (store : List ℕ) → length store ≡ storeSize → Stored store (start x)
@@ -155,7 +155,7 @@ module _ (store : List ℕ) (s : State) (k : Sound s) (st : Stored store s) (m :
 abbrev pub leaves : Lent → List ℕ → Plain.Outcome → State → List ℕ × List ℕ
 leaves Lent.nothing store o s = ([], store)
 leaves (Lent.bytes b) store o s = ([], storeAfter store o s b)
-leaves (Lent.room n) store o s = (shown (o .answer) (inStore store (Plain.hand s)), store)
+leaves (Lent.room n) store o s = (copied (o .answer) (inStore store (Plain.hand s)), store)
 
 -- a call that takes a room and is done tells how long the message in hand is
 abbrev Tells : State → Lent → Plain.Outcome → Type 0
@@ -210,7 +210,7 @@ module _ (store : List ℕ) (s : State) (k : Sound s) where
         ∙ sym (hand-long (eqb-true (length store) storeSize (not-false _ (whole .0))) (Plain.hand s) (λ j h. in-no-hand s k j (k .mail .no-more-buffers j h) (Plain.caller s)) (k .mail .hands-short (Plain.caller s))))
 
     -- and shows it there as it lies in the store, whatever else the room holds
-    pub room-shown : (room : List ℕ) → shown (withStore store c s .answer) (roomAfter store room (withStore store c s) s) ≡ shown (withStore store c s .answer) (inStore store (Plain.hand s))
+    pub room-shown : (room : List ℕ) → copied (withStore store c s .answer) (roomAfter store room (withStore store c s) s) ≡ copied (withStore store c s .answer) (inStore store (Plain.hand s))
     room-shown room = go (eqb (withStore store c s .answer .code) 0) refl
       where
         m : List ℕ

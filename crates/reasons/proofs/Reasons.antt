@@ -25,7 +25,8 @@ use Rattle.kernel.specs.Holds.{Holds}
 use Rattle.kernel.specs.Judged.{Judged, refusedWith}
 use Rattle.kernel.specs.declared.Kernel.{Kernel}
 use Rattle.verdicts.specs.declared.Verdict.{Verdict}
-use Rattle.reasons.specs.Reasons.{meant, Explains, refusals, runner, reasonAt}
+use Rattle.reasons.specs.Numbered.{refusals, runner, reasonAt}
+use Rattle.reasons.specs.Reasons.{meant, Explains}
 use Rattle.reasons.specs.declared.Explained.{Explained}
 
 -- ---- the reason

@@ -24,6 +24,6 @@ pub record IsTrue (s : State) (p : ℕ) (r : Reason) : Type 0 where
 abbrev pub TrueReason : Type 1
 TrueReason = (K : Type 0) (Holds : K → State → Type 0) (k : K) (s : State) (p : ℕ) (w : Explained) → Holds k s → Sound s → p < processes → Explains Holds k p w → IsTrue s p (meant (w .reason))
 
--- 3. Demand 2: at any moment of a run the plain kernel's answer and reason of the state reached then are given.
+-- 3. Demand 2 (docs/KERNEL.md): at any moment of a run the plain kernel's answer and reason of the state reached then are given.
 abbrev pub ExplainedAnywhere : Type 1
 ExplainedAnywhere = (K : Type 0) (Holds : K → State → Type 0) (p : ℕ) (w : Explained) → Anywhere Holds (λ s. Plain.why s p) (λ s. meant (w .reason) ≡ Plain.told s p) (meant (w .reason) ≡ Plain.unused) (said (w .answer))

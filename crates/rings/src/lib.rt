@@ -3,7 +3,8 @@
 ghost use mathlib.Core.Path.{_≡_};
 ghost use Prim.Native.Nat.{ℕ, _+_, _-_, _≤_, _<_};
 ghost use lib.ListN.{length, getD};
-ghost use Rattle.rings.specs.Walk.{Answer, Says, Settled, Sized, StepOf, Swept, Walk, tables};
+ghost use Rattle.rings.specs.Decides.{Decides};
+ghost use Rattle.rings.specs.Walk.{Decision, Settled, Sized, StepOf, Swept, Walk, tables};
 
 // Whether the tables hold queues; and for each member 0, or the number of its queue plus 1.
 pub struct Places {
@@ -33,7 +34,7 @@ fn node(t: &[u8], i: usize) -> usize
 
 // At most 32 members and 255 nodes, and each node with a link on and a link back.
 fn sized(next: &[u8], prev: &[u8], members: usize) -> bool
-    ensures { λ r. ⌜ Says r (Sized members (now (next .entry)) (now (prev .entry))) ⌝ }
+    ensures { λ r. ⌜ Decides r (Sized members (now (next .entry)) (now (prev .entry))) ⌝ }
 {
     if 32 < members {
         return false;
@@ -73,7 +74,7 @@ fn advance(next: &[u8], prev: &[u8], members: usize, at: &[u8; 32], head: usize,
 
 // Whether a node is linked to itself: it is the node after it, and the node before it.
 fn alone(after: u8, ahead: u8, own: u8) -> bool
-    ensures { λ r. ⌜ Says r ((after ≡ own) × (ahead ≡ own)) ⌝ }
+    ensures { λ r. ⌜ Decides r ((after ≡ own) × (ahead ≡ own)) ⌝ }
 {
     if after != own {
         return false;
@@ -123,7 +124,7 @@ fn sweep(next: &[u8], prev: &[u8], members: usize) -> Places
 
 // Whether a member has a mark, or is linked to itself.
 fn settled(mark: u8, after: u8, ahead: u8, own: u8) -> bool
-    ensures { λ r. ⌜ Says r (mark ≡ 0 → (after ≡ own) × (ahead ≡ own)) ⌝ }
+    ensures { λ r. ⌜ Decides r (mark ≡ 0 → (after ≡ own) × (ahead ≡ own)) ⌝ }
 {
     if mark != 0 {
         return true;
@@ -134,7 +135,7 @@ fn settled(mark: u8, after: u8, ahead: u8, own: u8) -> bool
 // Whether each member has a mark, or is linked to itself. All are asked, with no early exit: so compiled, several at once.
 fn all_settled(next: &[u8], prev: &[u8], members: usize, at: &[u8; 32]) -> bool
     requires { ⌜ Sized members (now next) (now prev) ⌝ }
-    ensures { λ r. ⌜ Says r ((p : ℕ) → p < members → Settled (tables (now (next .entry)) (now (prev .entry))) (now (at .entry)) p) ⌝ }
+    ensures { λ r. ⌜ Decides r ((p : ℕ) → p < members → Settled (tables (now (next .entry)) (now (prev .entry))) (now (at .entry)) p) ⌝ }
 {
     let mut all = true;
     let mut p = 0;
@@ -147,7 +148,7 @@ fn all_settled(next: &[u8], prev: &[u8], members: usize, at: &[u8; 32]) -> bool
 
 // Whether the tables hold queues of the members below `members`, and where each of these stands.
 pub fn standing(next: &[u8], prev: &[u8], members: usize) -> Places
-    ensures { λ r. ⌜ Answer members (now (next .entry)) (now (prev .entry)) (r .ok) (r .at) ⌝ }
+    ensures { λ r. ⌜ Decision members (now (next .entry)) (now (prev .entry)) (r .ok) (r .at) ⌝ }
 {
     let zeros = [0u8; 32];
     let none = Places {

@@ -30,7 +30,8 @@ use Rattle.mail.proofs.Looks.{has-message, length-in-hand}
 use Rattle.kernel.specs.Holds.{Holds}
 use Rattle.kernel.specs.declared.Kernel.{Kernel}
 use Rattle.rows.specs.Places.{spot, nowhere, spotIn, spotOf}
-use Rattle.rows.specs.Rows.{rowWith, rowIn, shown, Shows}
+use Rattle.rows.specs.Row.{asRow}
+use Rattle.rows.specs.Rows.{rowWith, rowIn, Shows}
 use Rattle.rows.specs.declared.Row.{Row}
 use Rattle.rows.specs.declared.Spot.{Spot}
 
@@ -49,7 +50,7 @@ bit-full false = refl
 
 module _ {k : Kernel} {s : State} (H : Holds k s) (p : ℕ) where
   -- the columns that do not depend on the place
-  with-is : (x : Spot) → rowWith k p x ≡ shown (Plain.rowAs s p (x .place) (x .which) (x .position))
+  with-is : (x : Spot) → rowWith k p x ≡ asRow (Plain.rowAs s p (x .place) (x .which) (x .position))
   unfolding rowWith
   with-is x =
       let c = H .procs .stands .class p in
@@ -60,7 +61,7 @@ module _ {k : Kernel} {s : State} (H : Holds k s) (p : ℕ) where
 
   -- ---- the row by the place
 
-  in-is : (q : ℕ) → rowWith k p (spotIn q (ahead p (s .procs .queue q))) ≡ shown (Plain.rowIn s p q)
+  in-is : (q : ℕ) → rowWith k p (spotIn q (ahead p (s .procs .queue q))) ≡ asRow (Plain.rowIn s p q)
   unfolding spotIn
   in-is q = with-is (spotIn q n) ∙ go (ltb q classes) (ltb q (classes + mailboxes)) (ltb q queues)
     where
@@ -69,8 +70,8 @@ module _ {k : Kernel} {s : State} (H : Holds k s) (p : ℕ) where
 
       go : (a b c : Bool)
           → (let x : Spot = (if a then spot 2 q n else (if b then spot 3 (q - classes) n else (if c then spot 4 (q - (classes + mailboxes)) n else nowhere))) in
-          shown (Plain.rowAs s p (x .place) (x .which) (x .position)))
-          ≡ shown (if a then Plain.rowAs s p 2 q n
+          asRow (Plain.rowAs s p (x .place) (x .which) (x .position)))
+          ≡ asRow (if a then Plain.rowAs s p 2 q n
           else (if b then Plain.rowAs s p 3 (q - classes) n
           else (if c then Plain.rowAs s p 4 (q - (classes + mailboxes)) n
           else Plain.rowAs s p 0 0 0)))
@@ -79,12 +80,12 @@ module _ {k : Kernel} {s : State} (H : Holds k s) (p : ℕ) where
       go false false true = refl
       go false false false = refl
 
-  none-is : (n : ℕ) → rowWith k p (spotIn queues n) ≡ shown (Plain.rowIn s p queues)
+  none-is : (n : ℕ) → rowWith k p (spotIn queues n) ≡ asRow (Plain.rowIn s p queues)
   unfolding spotIn
   none-is n = with-is nowhere
 
   -- who does not run stands in a queue or nowhere
-  resting : p < processes → (let at : Standing = standing (Stands.numbers (k .procs) .tables .prev) p in rowWith k p (spotIn (at .queue) (at .ahead))) ≡ shown (Plain.rowIn s p (queueOf s p))
+  resting : p < processes → (let at : Standing = standing (Stands.numbers (k .procs) .tables .prev) p in rowWith k p (spotIn (at .queue) (at .ahead))) ≡ asRow (Plain.rowIn s p (queueOf s p))
   resting h =
       let R = H .procs .stands .queues in ⊎-elim
       (λ w. rw (standing-in R p (w .0) (w .2), queue-is s p (w .0) (w .1) (w .2) (λ j d. elsewhere R j (w .0) p (w .2) d)) (in-is (w .0)))
@@ -96,7 +97,7 @@ module _ {k : Kernel} {s : State} (H : Holds k s) where
   unfolding Stands.numbers
   runner = H .procs .stands .running
 
-  not-null : (p : ℕ) → p < processes → rowWith k p (spotOf (Stands.numbers (k .procs)) p) ≡ shown (if eqb p (s .procs .running) then Plain.rowAs s p 1 (s .procs .class p) 0 else Plain.rowIn s p (queueOf s p))
+  not-null : (p : ℕ) → p < processes → rowWith k p (spotOf (Stands.numbers (k .procs)) p) ≡ asRow (if eqb p (s .procs .running) then Plain.rowAs s p 1 (s .procs .class p) 0 else Plain.rowIn s p (queueOf s p))
   unfolding spotOf
   not-null p h = ⊎-elim
       (λ (e : p ≡ s .procs .running). rw (H .procs .stands .running, eq-eqb p (s .procs .running) e, H .procs .stands .class p) (with-is H p (spot 1 (s .procs .class p) 0)))
@@ -104,7 +105,7 @@ module _ {k : Kernel} {s : State} (H : Holds k s) where
       (same? p (s .procs .running))
 
   -- the row of each process
-  pub row-is : (i : ℕ) → i < processes → rowIn k i ≡ shown (Plain.row s i)
+  pub row-is : (i : ℕ) → i < processes → rowIn k i ≡ asRow (Plain.row s i)
   unfolding rowIn Plain.row
   row-is i h = ⊎-elim
       (λ (e : i ≡ 0). rw (e, runner))

@@ -1,3 +1,4 @@
 pub mod Places
+pub mod Row
 pub mod Rows
 pub mod Theorems

@@ -15,10 +15,9 @@ use Rattle.mail.specs.Moves.{hasMessage, lengthInHand}
 use Rattle.kernel.specs.Holds.{Holds}
 use Rattle.kernel.specs.declared.Kernel.{Kernel}
 use Rattle.rows.specs.Places.{spotOf}
+use Rattle.rows.specs.Row.{asRow}
 use Rattle.rows.specs.declared.Row.{Row}
 use Rattle.rows.specs.declared.Spot.{Spot}
-
--- ---- in the struct's numbers
 
 -- zeros after the place
 abbrev pub bare : ℕ → Row
@@ -42,21 +41,7 @@ rowIn k i =
     if eqb i 0 then bare (if eqb (k .procs .running .0) 0 then 1 else 5)
     else (if ltb i processes then rowWith k i (spotOf (Stands.numbers (k .procs)) i) else bare 0)
 
--- ---- in the plain kernel's terms
-
--- the plain kernel's row, as the code gives it
-abbrev pub shown : Plain.Row → Row
-shown r = record {
-  place = r .place;
-  which = r .which;
-  position = r .position;
-  class = r .class;
-  ticks = r .ticks;
-  full = r .full;
-  length = r .length;
-}
-
 -- r is the row of process i
 pub record Shows (k : Kernel) (i : ℕ) (r : Row) : Type 0 where
   pub whole : r ≡ rowIn k i
-  pub plain : (s : State) → Holds k s → i < processes → r ≡ shown (Plain.row s i)
+  pub plain : (s : State) → Holds k s → i < processes → r ≡ asRow (Plain.row s i)

@@ -1,4 +1,4 @@
--- The lines of the paper's sample, and the edges of what it allows, computed.
+-- The lines of document 01's sample, and the edges of what it allows, computed.
 -- Assumes nothing.
 use Prim.Native.Nat.{ℕ}
 use Prim.Native.Char.{code}

@@ -5,11 +5,11 @@ ghost use mathlib.Core.Path.{_≡_};
 ghost use mathlib.Core.List.{map};
 ghost use Rattle.lists.specs.Lists.{put};
 ghost use Rattle.bits.specs.Word.{width, word, bits};
-ghost use Rattle.rings.specs.Walk.{Says};
+ghost use Rattle.rings.specs.Decides.{Decides};
 ghost use Rattle.plain.specs.Sizes.{classes};
 ghost use Rattle.queues.specs.Queue.{num, tablesOf};
 ghost use Rattle.procs.specs.Stands.{numbers};
-ghost use Rattle.seats.specs.Seats.{Answer};
+ghost use Rattle.seats.specs.Seats.{Decision};
 ghost use Rattle.seats.specs.Fits.{Found, Block, Bare, Asked, AllSeats, readyIn, Topmost, Fits};
 use procs::Procs;
 use queues::Queues;
@@ -36,7 +36,7 @@ fn places_of(queues: Queues) -> Places
 
 // Whether a used process, which runs or stands in a queue, may have this class and these ticks.
 fn block_fits(at: u8, class: u8, ticks: u8, slice: u8) -> bool
-    ensures { λ r. ⌜ Says r (Block slice at class ticks) ⌝ }
+    ensures { λ r. ⌜ Decides r (Block slice at class ticks) ⌝ }
 {
     if CLASSES <= class {
         return false;
@@ -58,7 +58,7 @@ fn block_fits(at: u8, class: u8, ticks: u8, slice: u8) -> bool
 
 // Whether a process stands in no queue, and its block carries zeros.
 fn is_vacant(at: u8, class: u8, ticks: u8) -> bool
-    ensures { λ r. ⌜ Says r (Bare at class ticks) ⌝ }
+    ensures { λ r. ⌜ Decides r (Bare at class ticks) ⌝ }
 {
     if at != 0 {
         return false;
@@ -71,7 +71,7 @@ fn is_vacant(at: u8, class: u8, ticks: u8) -> bool
 
 // Whether a process is in exactly one place, and its block is as that place asks. Of one that is unused it is not asked here whether it runs.
 fn seat_fits(at: u8, runs: bool, class: u8, ticks: u8, unused: bool, slice: u8) -> bool
-    ensures { λ r. ⌜ Says r (Asked slice at runs class ticks unused) ⌝ }
+    ensures { λ r. ⌜ Decides r (Asked slice at runs class ticks unused) ⌝ }
 {
     if unused {
         return is_vacant(at, class, ticks);
@@ -91,7 +91,7 @@ fn seats_fit(
     unused: Pids,
     slice: u8,
 ) -> bool
-    ensures { λ r. ⌜ Says r (AllSeats slice running at class ticks (unused .0)) ⌝ }
+    ensures { λ r. ⌜ Decides r (AllSeats slice running at class ticks (unused .0)) ⌝ }
 {
     if bits::has_bit(unused.0, 0) {
         return false;
@@ -138,7 +138,7 @@ fn ready_word(next: [Pid; NODES]) -> u32
 
 // Whether no class above the runner's has someone ready, and none at all where 0 runs.
 fn is_topmost(running: usize, class: u8, ready: u32) -> bool
-    ensures { λ r. ⌜ Says r (Topmost running class ready) ⌝ }
+    ensures { λ r. ⌜ Decides r (Topmost running class ready) ⌝ }
 {
     if ready == 0 {
         return true;
@@ -151,7 +151,7 @@ fn is_topmost(running: usize, class: u8, ready: u32) -> bool
 
 // Whether all but the links is sound, where each process stands as `at` says.
 fn procs_fit(k: Procs, at: [u8; PROCESSES], slice: u8) -> bool
-    ensures { λ r. ⌜ Says r (Fits slice (numbers k) at) ⌝ }
+    ensures { λ r. ⌜ Decides r (Fits slice (numbers k) at) ⌝ }
 {
     let running = k.running.0 as usize;
     if PROCESSES <= running {
@@ -173,7 +173,7 @@ fn procs_fit(k: Procs, at: [u8; PROCESSES], slice: u8) -> bool
 
 // Whether k holds the sound process part of a state, and in which queue each process then stands.
 pub fn seated(k: Procs, slice: u8) -> Places
-    ensures { λ r. ⌜ Answer slice (numbers k) (r .ok) (r .at) ⌝ }
+    ensures { λ r. ⌜ Decision slice (numbers k) (r .ok) (r .at) ⌝ }
 {
     let zeros = [0u8; PROCESSES];
     let none = Places {

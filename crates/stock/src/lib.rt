@@ -13,11 +13,11 @@ use sizes::Pids;
 ghost use mathlib.Core.Path.{_≡_};
 ghost use mathlib.Core.List.{map};
 ghost use lib.ListN.{length};
-ghost use Rattle.rings.specs.Walk.{Says};
+ghost use Rattle.rings.specs.Decides.{Decides};
 ghost use Rattle.plain.specs.Sizes.{buffers};
 ghost use Rattle.boxes.specs.Box.{num, tablesOf};
 ghost use Rattle.mail.specs.Carries.{numbers};
-ghost use Rattle.stock.specs.Stock.{Answer};
+ghost use Rattle.stock.specs.Stock.{Decision};
 ghost use Rattle.stock.specs.Tests.{AllBuffers, BufferFits, Few, Grasped, Handed, Queued};
 
 const MAILBOXES: u32 = sizes::MAILBOXES as u32;
@@ -44,7 +44,7 @@ fn queued(boxes: Boxes) -> Places
 
 // Whether no mailbox holds more than its capacity.
 fn few(boxes: Boxes) -> bool
-    ensures { λ r. ⌜ Says r (Few (tablesOf boxes)) ⌝ }
+    ensures { λ r. ⌜ Decides r (Few (tablesOf boxes)) ⌝ }
 {
     let links = boxes.next;
     let next = bytes_of(links);
@@ -95,7 +95,7 @@ fn handed(at: [u8; BUFFERS], hand: [Bid; PROCESSES], full: Pids) -> Places
 
 // Whether a buffer at this place has a length and a bit that it may have there.
 fn buffer_fits(place: u8, length: u16, free: bool) -> bool
-    ensures { λ r. ⌜ Says r (BufferFits place length free) ⌝ }
+    ensures { λ r. ⌜ Decides r (BufferFits place length free) ⌝ }
 {
     if place == 0 {
         if length != 0 {
@@ -111,7 +111,7 @@ fn buffer_fits(place: u8, length: u16, free: bool) -> bool
 
 // Whether every buffer does. All are asked, with no early exit: so compiled, several at once.
 fn buffers_fit(at: [u8; BUFFERS], length: [u16; BUFFERS], free: Bids) -> bool
-    ensures { λ r. ⌜ Says r (AllBuffers at length (free .0)) ⌝ }
+    ensures { λ r. ⌜ Decides r (AllBuffers at length (free .0)) ⌝ }
 {
     let mut all = true;
     let mut b = 0;
@@ -124,7 +124,7 @@ fn buffers_fit(at: [u8; BUFFERS], length: [u16; BUFFERS], free: Bids) -> bool
 
 // Whether k holds sound mail.
 pub fn stocked(k: Mail) -> bool
-    ensures { λ r. ⌜ Answer (numbers k) r ⌝ }
+    ensures { λ r. ⌜ Decision (numbers k) r ⌝ }
 {
     let boxes = k.boxes;
     let q = queued(boxes);

@@ -7,7 +7,7 @@ use native.Mathlib.Omega.{arith}
 use native.Mathlib.Numerals.{add-one}
 use lib.ListN.{length, getD, set, take, length-append, length-take}
 use lib.Seq.{take-all, take-suc, take-suc-set, take-append-le, length-take-le}
-use Rattle.wording.specs.Promises.{room, shown, more}
+use Rattle.wording.specs.Promises.{room, soFar, more}
 use Rattle.wording.specs.declared.phrase.Phrase.{Phrase}
 
 take-front : (n : ℕ) (a b : List ℕ) → take n (take n a ++ b) ≡ take n (a ++ b)
@@ -25,23 +25,23 @@ unfolding more
 more-fits s l h = take-all room (s ++ l) h
 
 module _ (t : Phrase) (size : length (t .bytes) ≡ room) where
-  shown-short : length (shown t) ≤ room
+  shown-short : length (soFar t) ≤ room
   shown-short = omega (arith, length-take (t .length) (t .bytes))
 
-  pub more-none : shown t ≡ more (shown t) []
-  more-none = sym (more-fits (shown t) [] (simp append-nil shown-short) ∙ append-nil (shown t))
+  pub more-none : soFar t ≡ more (soFar t) []
+  more-none = sym (more-fits (soFar t) [] (simp append-nil shown-short) ∙ append-nil (soFar t))
 
   -- one byte, where there is room and where there is none
-  pub more-byte : (b : ℕ) → t .length < room → take (t .length + 1) (set (t .bytes) (t .length) b) ≡ more (shown t) (b ∷ [])
+  pub more-byte : (b : ℕ) → t .length < room → take (t .length + 1) (set (t .bytes) (t .length) b) ≡ more (soFar t) (b ∷ [])
   more-byte b h =
       let n = t .length in
-      let short : length (shown t ++ (b ∷ [])) ≤ room = rw (length-append (shown t) (b ∷ []), length-take-le n (t .bytes) (omega arith)) (omega arith) in
-      rw (add-one, more-fits (shown t) (b ∷ []) short) (take-suc-set (t .bytes) n b (omega arith))
+      let short : length (soFar t ++ (b ∷ [])) ≤ room = rw (length-append (soFar t) (b ∷ []), length-take-le n (t .bytes) (omega arith)) (omega arith) in
+      rw (add-one, more-fits (soFar t) (b ∷ []) short) (take-suc-set (t .bytes) n b (omega arith))
 
-  pub more-full : (l : List ℕ) → room ≤ t .length → shown t ≡ more (shown t) l
+  pub more-full : (l : List ℕ) → room ≤ t .length → soFar t ≡ more (soFar t) l
   unfolding more
   more-full l h =
-      let whole : shown t ≡ t .bytes = take-all (t .length) (t .bytes) (omega arith) in
+      let whole : soFar t ≡ t .bytes = take-all (t .length) (t .bytes) (omega arith) in
       rw whole (sym (take-append-le room (t .bytes) l (omega arith) ∙ take-all room (t .bytes) (omega arith)))
 
 -- one byte more of a piece

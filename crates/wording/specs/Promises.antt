@@ -10,8 +10,8 @@ abbrev pub room : ℕ
 room = 96
 
 -- what stands in it
-abbrev pub shown : Phrase → List ℕ
-shown t = take (t .length) (t .bytes)
+abbrev pub soFar : Phrase → List ℕ
+soFar t = take (t .length) (t .bytes)
 
 -- a text, and then l, as far as there is room
 unfoldable pub more : List ℕ → List ℕ → List ℕ

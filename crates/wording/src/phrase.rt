@@ -5,7 +5,7 @@ ghost use Prim.Native.Nat.{_≤_};
 ghost use lib.ListN.{take};
 ghost use Rattle.answers.specs.Answer.{answer, decimal, line};
 ghost use Rattle.answers.specs.Written.{Written};
-ghost use Rattle.wording.specs.Promises.{room, shown, more};
+ghost use Rattle.wording.specs.Promises.{room, soFar, more};
 
 pub(crate) const ROOM: usize = 96;
 
@@ -15,7 +15,7 @@ pub(crate) struct Phrase {
 }
 
 pub(crate) fn nothing() -> Phrase
-    ensures { λ r. ⌜ shown r ≡ [] ⌝ }
+    ensures { λ r. ⌜ soFar r ≡ [] ⌝ }
 {
     let bytes = [0; ROOM];
     Phrase { bytes, length: 0 }
@@ -23,7 +23,7 @@ pub(crate) fn nothing() -> Phrase
 
 // An answer's line always has room.
 pub(crate) fn line(code: u32, number: u32, running: u32) -> Phrase
-    ensures { λ r. ⌜ shown r ≡ line (answer code number running) ⌝ }
+    ensures { λ r. ⌜ soFar r ≡ line (answer code number running) ⌝ }
 {
     let mut bytes = [0; ROOM];
     let length = answers::put_line(&mut bytes, code, number, running);
@@ -31,7 +31,7 @@ pub(crate) fn line(code: u32, number: u32, running: u32) -> Phrase
 }
 
 fn add(t: Phrase, b: u8) -> Phrase
-    ensures { λ r. ⌜ shown r ≡ more (shown t) (b ∷ []) ⌝ }
+    ensures { λ r. ⌜ soFar r ≡ more (soFar t) (b ∷ []) ⌝ }
 {
     let at = t.length;
     if ROOM <= at {
@@ -46,7 +46,7 @@ fn add(t: Phrase, b: u8) -> Phrase
 }
 
 pub(crate) fn say(t: Phrase, piece: &[u8]) -> Phrase
-    ensures { λ r. ⌜ shown r ≡ more (shown t) (now (piece .entry)) ⌝ }
+    ensures { λ r. ⌜ soFar r ≡ more (soFar t) (now (piece .entry)) ⌝ }
 {
     let mut text = t;
     let mut i = 0;
@@ -58,7 +58,7 @@ pub(crate) fn say(t: Phrase, piece: &[u8]) -> Phrase
 }
 
 pub(crate) fn say_number(t: Phrase, n: u8) -> Phrase
-    ensures { λ r. ⌜ shown r ≡ more (shown t) (decimal n) ⌝ }
+    ensures { λ r. ⌜ soFar r ≡ more (soFar t) (decimal n) ⌝ }
 {
     let mut digits = [0; 10];
     let end = answers::put_decimal(&mut digits, n as u32);
@@ -67,7 +67,7 @@ pub(crate) fn say_number(t: Phrase, n: u8) -> Phrase
 
 // How many of the bytes are the text.
 fn used(t: Phrase) -> usize
-    ensures { λ r. ⌜ (r ≤ room) × (take r (t .bytes) ≡ shown t) ⌝ }
+    ensures { λ r. ⌜ (r ≤ room) × (take r (t .bytes) ≡ soFar t) ⌝ }
 {
     if ROOM <= t.length {
         return ROOM;
@@ -76,7 +76,7 @@ fn used(t: Phrase) -> usize
 }
 
 pub(crate) fn put(out: &mut [u8], t: Phrase) -> usize
-    ensures { λ r. ⌜ Written (shown t) (now (out .entry)) (now (out .exit)) r ⌝ }
+    ensures { λ r. ⌜ Written (soFar t) (now (out .entry)) (now (out .exit)) r ⌝ }
 {
     let bytes = t.bytes;
     let end = used(t);

@@ -1,7 +1,7 @@
 // What a stagehand is told of a process. Assumes nothing.
 ghost use mathlib.Core.Path.{_≡_};
 ghost use Rattle.reasons.specs.Reasons.{meant};
-ghost use Rattle.wording.specs.Promises.{shown, more, Small};
+ghost use Rattle.wording.specs.Promises.{soFar, more, Small};
 ghost use Rattle.wording.specs.Words.{aheadOf, waitsAt, behindClass, standsBy, about};
 use crate::phrase::Phrase;
 use crate::phrase::say;
@@ -9,7 +9,7 @@ use crate::phrase::say_number;
 use reasons::Reason;
 
 fn say_ahead(t: Phrase, n: u8) -> Phrase
-    ensures { λ r. ⌜ shown r ≡ more (shown t) (aheadOf n) ⌝ }
+    ensures { λ r. ⌜ soFar r ≡ more (soFar t) (aheadOf n) ⌝ }
 {
     if n == 0 {
         return say(t, b"It is next.");
@@ -21,14 +21,14 @@ fn say_ahead(t: Phrase, n: u8) -> Phrase
 }
 
 fn say_waits(t: Phrase, word: &[u8], x: u8, n: u8) -> Phrase
-    ensures { λ r. ⌜ shown r ≡ more (shown t) (waitsAt (now (word .entry)) x n) ⌝ }
+    ensures { λ r. ⌜ soFar r ≡ more (soFar t) (waitsAt (now (word .entry)) x n) ⌝ }
 {
     let place = say(say(say(t, b" waits at "), word), b" ");
     say_ahead(say(say_number(place, x), b". "), n)
 }
 
 fn say_class(t: Phrase, n: u8) -> Phrase
-    ensures { λ r. ⌜ shown r ≡ more (shown t) (behindClass n) ⌝ }
+    ensures { λ r. ⌜ soFar r ≡ more (soFar t) (behindClass n) ⌝ }
 {
     if n == 1 {
         return say(
@@ -44,14 +44,14 @@ fn say_class(t: Phrase, n: u8) -> Phrase
 }
 
 fn say_behind(t: Phrase, q: u8) -> Phrase
-    ensures { λ r. ⌜ shown r ≡ more (shown t) (standsBy q) ⌝ }
+    ensures { λ r. ⌜ soFar r ≡ more (soFar t) (standsBy q) ⌝ }
 {
     let runner = say_number(say(t, b" is ready and waits while process "), q);
     say(runner, b" runs.")
 }
 
 pub(crate) fn say_about(t: Phrase, reason: Reason) -> Phrase
-    ensures { λ r. ⌜ (shown r ≡ more (shown t) (about (meant reason))) × Small (meant reason) ⌝ }
+    ensures { λ r. ⌜ (soFar r ≡ more (soFar t) (about (meant reason))) × Small (meant reason) ⌝ }
 {
     match reason {
         Reason::Unused => say(t, b" is not in use."),

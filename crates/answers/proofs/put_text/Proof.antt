@@ -4,7 +4,7 @@ use mathlib.Core.Path.{_≡_, refl}
 use native.Mathlib.Omega.{arith}
 use lib.ListN.{length}
 use borrow.Author.Needs.{needs}
-use Rattle.answers.specs.Promises.{textRoom, shown}
+use Rattle.answers.specs.Promises.{textRoom, soFar}
 use Rattle.answers.proofs.TextLaws.{text-part}
 use Rattle.answers.proofs.put_text.Statement.{statement}
 use Rattle.answers.proofs.put_text.Tie as tie
@@ -16,7 +16,7 @@ returns : tie.Need-returns
 returns c =
     let t = c .before .before .before .before .before .before .before .before .args .t in
     let size : length (t .bytes) ≡ textRoom = search needs in
-    rw (text-part t (shown t) size refl) at (c .before .before .put .ensures)
+    rw (text-part t (soFar t) size refl) at (c .before .before .put .ensures)
 
 pub put-text-spec : {M : Type 1} → statement M
 put-text-spec =

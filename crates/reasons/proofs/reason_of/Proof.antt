@@ -4,7 +4,7 @@ use borrow.Author.Tests.{eq-eqb, ne-eqb}
 use Rattle.queues.proofs.Ways.{standing-few}
 use Rattle.queues.specs.Queue.{tablesOf}
 use Rattle.procs.specs.Stands as Stands
-use Rattle.reasons.specs.Reasons.{reasonAt}
+use Rattle.reasons.specs.Numbered.{reasonAt}
 use Rattle.reasons.proofs.reason_of.Statement.{statement}
 use Rattle.reasons.proofs.reason_of.Tie as tie
 

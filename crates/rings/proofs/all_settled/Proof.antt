@@ -3,13 +3,14 @@
 use borrow.Author.Needs.{needs}
 use Prim.Native.Nat.{ℕ, _≤_, _<_, _-_}
 use native.Mathlib.Omega.{arith}
-use Rattle.rings.specs.Walk.{tables, Says, Settled}
-use Rattle.rings.proofs.Decisions.{says-as, says-more}
+use Rattle.rings.specs.Decides.{Decides}
+use Rattle.rings.specs.Walk.{tables, Settled}
+use Rattle.rings.proofs.Decisions.{decides-as, decides-more}
 use Rattle.rings.proofs.all_settled.Statement.{statement}
 use Rattle.rings.proofs.all_settled.Tie as tie
 
 abbrev Inv-loop : tie.InvT-loop
-Inv-loop next prev members at all₀ p₀ all p = (p ≤ members) × Says all ((i : ℕ) → i < p → Settled (tables next prev) at i)
+Inv-loop next prev members at all₀ p₀ all p = (p ≤ members) × Decides all ((i : ℕ) → i < p → Settled (tables next prev) at i)
 
 abbrev μ-loop : tie.MeasureT-loop
 μ-loop next prev members at all₀ p₀ all p = members - p
@@ -40,10 +41,10 @@ loop-again c =
     let l = c .before .before .before .before .before .loop in
     let x = c .before .before .before .before .before .before .before .before .args in
     let P = Settled (tables (x .next .now) (x .prev .now)) (x .at .now) in
-    (omega arith, says-more P (l .p) (l .all) (c .settled .result) (l .inv .1) (says-as (P (l .p)) (c .settled .result) (λ f e. record { to = f e .0; back = f e .1 }) (λ f e. (f e .to, f e .back)) (c .settled .ensures)))
+    (omega arith, decides-more P (l .p) (l .all) (c .settled .result) (l .inv .1) (decides-as (P (l .p)) (c .settled .result) (λ f e. record { to = f e .0; back = f e .1 }) (λ f e. (f e .to, f e .back)) (c .settled .ensures)))
 
 returns : tie.Need-returns Inv-loop μ-loop
-returns c = let l = c .before .loop in says-as _ (l .all) (λ f p h. f p (omega arith)) (λ f p h. f p (omega arith)) (l .inv .1)
+returns c = let l = c .before .loop in decides-as _ (l .all) (λ f p h. f p (omega arith)) (λ f p h. f p (omega arith)) (l .inv .1)
 
 pub all-settled-spec : {M : Type 1} → statement M
 all-settled-spec =

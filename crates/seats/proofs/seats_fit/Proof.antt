@@ -8,8 +8,8 @@ use native.Mathlib.Omega.{arith}
 use lib.ListN.{getD}
 use lib.Dec.{eqb}
 use Rattle.bits.specs.Word.{bits}
-use Rattle.rings.specs.Walk.{Says}
-use Rattle.rings.proofs.Decisions.{says-as, says-more}
+use Rattle.rings.specs.Decides.{Decides}
+use Rattle.rings.proofs.Decisions.{decides-as, decides-more}
 use Rattle.plain.specs.Sizes.{processes}
 use Rattle.seats.specs.Fits.{Asked}
 use Rattle.seats.proofs.Everyone.{all-seats, each-asked, runner-used}
@@ -18,7 +18,7 @@ use Rattle.seats.proofs.seats_fit.Tie as tie
 
 abbrev Inv-loop : tie.InvT-loop
 Inv-loop running slice at class ticks vacant all₀ p₀ all p =
-    (p ≤ processes) × Says all ((i : ℕ) → i < p → Asked slice (getD at i 0) (eqb running i) (getD class i 0) (getD ticks i 0) (bits vacant i))
+    (p ≤ processes) × Decides all ((i : ℕ) → i < p → Asked slice (getD at i 0) (eqb running i) (getD class i 0) (getD ticks i 0) (bits vacant i))
 
 abbrev μ-loop : tie.MeasureT-loop
 μ-loop running slice at class ticks vacant all₀ p₀ all p = processes - p
@@ -41,7 +41,7 @@ loop-again c =
     let l = k .loop in
     let x = k .before .before .before .before .before .before .args in (
       omega arith,
-      says-more (λ i. Asked (x .slice) (getD (x .t2) i 0) (eqb (x .running) i) (getD (x .t3) i 0) (getD (x .t4) i 0) (bits (k .before .with-bit .result) i)) (l .p) (l .all) (f .result) (l .inv .1) (rw (c .before .has-bit3 .ensures) at (f .ensures)),
+      decides-more (λ i. Asked (x .slice) (getD (x .t2) i 0) (eqb (x .running) i) (getD (x .t3) i 0) (getD (x .t4) i 0) (bits (k .before .with-bit .result) i)) (l .p) (l .all) (f .result) (l .inv .1) (rw (c .before .has-bit3 .ensures) at (f .ensures)),
     )
 
 returns-3 : tie.Need-returns-3 Inv-loop μ-loop
@@ -51,7 +51,7 @@ returns-3 c =
     let x = z .before .before .before .before .before .args in
     let off = sym (z .before .before .before .before .has-bit .ensures) ∙ z .before .before .before .if1 .left in
     let used = sym (z .before .before .has-bit2 .ensures) ∙ z .before .if2 .left in
-    says-as _ (l .all)
+    decides-as _ (l .all)
     (λ s. all-seats (x .slice) (x .running) (x .t2) (x .t3) (x .t4) (x .unused .0) off used (λ i h. rw (z .with-bit .ensures) at (s i (omega arith))))
     (λ s i h. rw (z .with-bit .ensures) (each-asked (x .slice) (x .running) (x .t2) (x .t3) (x .t4) (x .unused .0) s i (omega arith)))
     (l .inv .1)

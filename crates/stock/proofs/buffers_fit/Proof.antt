@@ -3,8 +3,8 @@ use Prim.Native.Nat.{ℕ, _≤_, _<_, _-_}
 use native.Mathlib.Omega.{arith}
 use lib.ListN.{getD}
 use Rattle.bits.specs.Word.{bits}
-use Rattle.rings.specs.Walk.{Says}
-use Rattle.rings.proofs.Decisions.{says-as, says-more}
+use Rattle.rings.specs.Decides.{Decides}
+use Rattle.rings.proofs.Decisions.{decides-as, decides-more}
 use Rattle.plain.specs.Sizes.{buffers}
 use Rattle.stock.specs.Tests.{BufferFits}
 use borrow.Author.Needs.{needs}
@@ -12,7 +12,7 @@ use Rattle.stock.proofs.buffers_fit.Statement.{statement}
 use Rattle.stock.proofs.buffers_fit.Tie as tie
 
 abbrev Inv-loop : tie.InvT-loop
-Inv-loop free at length all₀ b₀ all b = (b ≤ buffers) × Says all ((i : ℕ) → i < b → BufferFits (getD at i 0) (getD length i 0) (bits (free .0) i))
+Inv-loop free at length all₀ b₀ all b = (b ≤ buffers) × Decides all ((i : ℕ) → i < b → BufferFits (getD at i 0) (getD length i 0) (bits (free .0) i))
 
 abbrev μ-loop : tie.MeasureT-loop
 μ-loop free at length all₀ b₀ all b = buffers - b
@@ -26,10 +26,10 @@ loop-again c =
     let l = c .before .before .before .loop in
     let x = c .before .before .before .before .args in
     let P : ℕ → Type 0 = λ i. BufferFits (getD (x .t1) i 0) (getD (x .t2) i 0) (bits (x .free .0) i) in
-    (omega arith, says-more P (l .b) (l .all) (r .result) (l .inv .1) (rw (c .before .has-bit .ensures) at (r .ensures)))
+    (omega arith, decides-more P (l .b) (l .all) (r .result) (l .inv .1) (rw (c .before .has-bit .ensures) at (r .ensures)))
 
 returns : tie.Need-returns Inv-loop μ-loop
-returns c = let l = c .before .loop in says-as _ (l .all) (λ f b h. f b (omega arith)) (λ f b h. f b (omega arith)) (l .inv .1)
+returns c = let l = c .before .loop in decides-as _ (l .all) (λ f b h. f b (omega arith)) (λ f b h. f b (omega arith)) (l .inv .1)
 
 pub buffers-fit-spec : {M : Type 1} → statement M
 buffers-fit-spec =

@@ -4,7 +4,7 @@ use mathlib.Core.Path.{_≡_}
 use native.Mathlib.Omega.{arith}
 use borrow.Author.Needs.{needs}
 use Rattle.reasons.specs.Reasons.{meant}
-use Rattle.wording.specs.Promises.{shown}
+use Rattle.wording.specs.Promises.{soFar}
 use Rattle.wording.specs.Words.{sentence}
 use Rattle.wording.proofs.Length.{sentence-short, sentence-whole}
 use Rattle.wording.proofs.put_sentence.Statement.{statement}
@@ -13,7 +13,7 @@ use Rattle.wording.proofs.put_sentence.Tie as tie
 returns : tie.Need-returns
 returns c =
     let s = c .before .before .before .before .before .before .before .before .before .before in
-    let whole : shown (c .before .before .before .say-about .result) ≡ sentence (s .args .process) (meant (s .args .reason)) =
+    let whole : soFar (c .before .before .before .say-about .result) ≡ sentence (s .args .process) (meant (s .args .reason)) =
     rw (c .before .before .before .say-about .ensures .0, c .before .before .before .before .before .say-number .ensures, c .before .before .before .before .before .before .say .ensures, c .before .before .before .before .before .before .before .before .nothing .ensures) (sentence-whole (s .args .process) (meant (s .args .reason)) (s .fits .process .fits) (c .before .before .before .say-about .ensures .1)) in
     (rw whole at (c .before .before .put .ensures), omega (arith, sentence-short (s .args .process) (meant (s .args .reason)) (s .fits .process .fits) (c .before .before .before .say-about .ensures .1)))
 

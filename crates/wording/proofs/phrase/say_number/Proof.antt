@@ -6,7 +6,7 @@ use lib.Seq.{length-take-le}
 use borrow.Author.Needs.{needs}
 use Rattle.answers.proofs.AreaLaws.{written-within, written-whole}
 use Rattle.answers.proofs.TextLaws.{byte-short}
-use Rattle.wording.specs.Promises.{shown, more}
+use Rattle.wording.specs.Promises.{soFar, more}
 use Rattle.wording.proofs.phrase.say_number.Statement.{statement}
 use Rattle.wording.proofs.phrase.say_number.Tie as tie
 
@@ -20,7 +20,7 @@ returns : tie.Need-returns
 returns c =
     let s = c .before .before .before .before .before in
     let short = byte-short (s .args .n) (s .fits .n .fits) in
-    c .say .ensures ∙ ap (more (shown (s .args .t))) (written-whole (c .before .before .before .put-decimal .ensures) (omega arith))
+    c .say .ensures ∙ ap (more (soFar (s .args .t))) (written-whole (c .before .before .before .put-decimal .ensures) (omega arith))
 
 pub say-number-spec : {M : Type 1} → statement M
 say-number-spec =
