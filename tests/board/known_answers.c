@@ -10,7 +10,10 @@
 #define MOST ((size_t)-1)
 #define HUGE_LENGTH ((size_t)1 << 40)
 #define STACK_LIMIT 4096
-#define TABLE_ROWS (CSENGADRUL_PROCESSES + 2)
+/* A call works on a copy of the state, so that a refusal changes nothing, and returns to its caller. */
+#define STACK_LEAST (CSENGADRUL_STATE_SIZE + sizeof(void *))
+#define TABLE_ROWS (2 * CSENGADRUL_PROCESSES)
+#define ROW_BYTE 0xee
 
 static uint8_t state[CSENGADRUL_STATE_SIZE + 1];
 static uint8_t store[CSENGADRUL_STORE_SIZE + 1];
@@ -375,10 +378,18 @@ static void rooms_for(size_t length) {
     usual();
 }
 
+/* Whether the rows from this one to the table's last are as they were. */
+static int rows_stay(size_t from) {
+    const uint8_t *at = (const uint8_t *)(rows + from), *end = (const uint8_t *)(rows + TABLE_ROWS);
+    while (at < end && *at == ROW_BYTE) at++;
+    return at == end;
+}
+
 static void table_of(enum lies lies, size_t told, size_t there, uint32_t code) {
-    memset(rows, 0xee, sizeof rows);
+    memset(rows, ROW_BYTE, sizeof rows);
     lay(ROWS, lies, told, there * sizeof *rows);
     expect("listing", LISTING, 0, code, code == CSENGADRUL_DONE ? 0 : CSENGADRUL_PROCESSES, 1);
+    count(rows_stay(code == CSENGADRUL_DONE ? CSENGADRUL_PROCESSES : 0), "rows that are no process's stay");
 }
 
 static int row_is(size_t process, unsigned place, unsigned which, unsigned position, unsigned class, unsigned ticks,
@@ -389,19 +400,18 @@ static int row_is(size_t process, unsigned place, unsigned which, unsigned posit
 }
 
 static void listing(void) {
-    static csengadrul_row later[2];
     hand_full();
     create(1, 2, 1);
     create(1, 3, 1);
     table_of(NULL_POINTER, 0, 0, CSENGADRUL_SHORT_ROOM);
     table_of(OUT_OF_REACH, 0, 0, CSENGADRUL_SHORT_ROOM);
+    table_of(side, 1, 1, CSENGADRUL_SHORT_ROOM);
     table_of(side, 31, 31, CSENGADRUL_SHORT_ROOM);
     table_of(side, HUGE_LENGTH, 32, CSENGADRUL_DONE);
     table_of(side, MOST, 32, CSENGADRUL_DONE);
     table_of(side, 32, 32, CSENGADRUL_DONE);
-    table_of(side, 34, 34, CSENGADRUL_DONE);
-    memset(later, 0xee, sizeof later);
-    count(memcmp(rows + 32, later, sizeof later) == 0, "later rows stay");
+    table_of(side, TABLE_ROWS, TABLE_ROWS, CSENGADRUL_DONE);
+    table_of(side, 33, 33, CSENGADRUL_DONE);
     count(row_is(0, CSENGADRUL_STANDING_BY, 0, 0, 0, 0, 0, 0), "the row of process 0");
     count(row_is(1, CSENGADRUL_RUNNING, 1, 0, 1, 3, 1, 3), "the row of the running one");
     count(row_is(2, CSENGADRUL_READY, 1, 0, 1, 3, 0, 0), "the row of the first that is ready");
@@ -559,6 +569,15 @@ static void all(void) {
     full_tables();
 }
 
+/* Where the stack was watched, the figure is one that a call can have. */
+static void stack(void) {
+#ifdef WATCH_STACK
+    printf("a call used at most %lu bytes of stack\n", (unsigned long)lend_deepest());
+    count(lend_deepest() >= STACK_LEAST, "a call used as much stack as a state and a return take");
+    count(lend_deepest() <= STACK_LIMIT, "a call keeps to the stack that docs/BOARD.md names");
+#endif
+}
+
 int main(void) {
     if (!lend_begin()) {
         printf("no pages to lend\n0 passed, 1 failed\n");
@@ -569,8 +588,7 @@ int main(void) {
     side = AT_THE_START;
     all();
     count(codes_seen == 0x10000fffful, "every code from 0 to 15 and 32 was given");
-    if (lend_deepest()) printf("a call used at most %lu bytes of stack\n", (unsigned long)lend_deepest());
-    count(lend_deepest() <= STACK_LIMIT, "a call keeps to the stack that docs/BOARD.md names");
+    stack();
     printf("%u passed, %u failed\n", passed, failed);
     return failed != 0;
 }

@@ -15,7 +15,7 @@ const NEAR_QUESTIONS: [&str; 20] = [
     "why 4294967297", "why 1a", "Why 1", "WHY 1", "wh 1", "whys 1", "why1",
 ];
 
-/// They wrap to a small number in 8, 16, 32 or 64 bits, or are written in another way than the paper's.
+/// They wrap to a small number in 8, 16, 32 or 64 bits, or are written in another way than document 01 has them.
 const NEAR_NUMBERS: [&str; 24] = [
     "00", "01", "007", "0000", "65536", "65537", "65538", "99999", "100000", "131073", "655350", "4294967296", "4294967297",
     "18446744073709551616", "18446744073709551617", "-1", "-0", "+1", "1.0", "1e1", "0x1", "1a", "a", "١",

@@ -1,4 +1,4 @@
-//! The comparison passes this package's own desk, and fails desks that answer wrongly, stop early, say too much or hang.
+//! The comparison fails desks that answer wrongly, stop early, say too much or hang, and lets right answers pass.
 
 use std::process::Command;
 
@@ -21,16 +21,10 @@ fn changed(command: &str) -> (bool, String) {
     compare(&["sh", "-c", &format!("'{DESK}' | {command}")], &[])
 }
 
+/// What is expected comes from the same code, so this says nothing about a desk: only that right answers are let pass.
 #[test]
-fn own_desk_passes() {
+fn right_answers_pass() {
     let (passed, printed) = compare(&[DESK], &[]);
-    assert!(passed, "{printed}");
-    assert_eq!(printed, "16 passed, 0 failed\n");
-}
-
-#[test]
-fn own_desk_passes_in_pieces() {
-    let (passed, printed) = compare(&[DESK], &["--pieces"]);
     assert!(passed, "{printed}");
     assert_eq!(printed, "16 passed, 0 failed\n");
 }

@@ -24,7 +24,10 @@ const EVERY: usize = 9;
 const DAMAGED: usize = 20_000;
 const OUT_OF_PLACE: usize = 20_000;
 const RANDOM_AREAS: usize = 2_000;
-/// The most rows that a table is given, two more than there are processes.
+/// Rows of a table, tried in every state that a sequence leads to: none, too few, enough, more, and as many as
+/// tests/board/driver.c has.
+const TABLES: [usize; 7] = [0, 1, PROCESSES - 1, PROCESSES, PROCESSES + 1, PROCESSES + 2, 4_096];
+/// The most rows that a table is given between calls.
 const ROWS: usize = PROCESSES + 2;
 /// Numbers of processes that there are not, some of which another width would take for others.
 const BEYOND: [u32; 8] = [32, 33, 255, 256, 287, 65_536, 0x8000_0000, u32::MAX];
@@ -66,6 +69,9 @@ fn sequence(seed: u64, calls: u64, store: &mut [u8]) -> (Batch, Kernel) {
         assert!(all_whole(&kernel, store), "the expected store holds every message whole");
     }
     ask_about_all(&mut batch, &mut kernel, store);
+    for rows in TABLES {
+        batch.listing(&kernel, rows);
+    }
     (batch, kernel)
 }
 
