@@ -20,7 +20,7 @@ use sizes::PROCESSES;
 use sizes::Pid;
 use sizes::Pids;
 
-pub fn byte(area: &[u8], at: usize) -> u8
+pub(crate) fn byte(area: &[u8], at: usize) -> u8
     ensures { λ r. ⌜ Got at 1 (byte r) (now (area .entry)) ⌝ }
 {
     if at < area.len() {
@@ -36,7 +36,7 @@ fn from_le32(a: u8, b: u8, c: u8, d: u8) -> u32
     a as u32 + 256 * (b as u32 + 256 * (c as u32 + 256 * (d as u32)))
 }
 
-pub fn word(area: &[u8], at: usize) -> u32
+pub(crate) fn word(area: &[u8], at: usize) -> u32
     ensures { λ r. ⌜ Got at 4 (le 4 r) (now (area .entry)) ⌝ }
 {
     if !layout::has_room(area.len(), at, 4) {
@@ -51,7 +51,7 @@ fn from_le16(a: u8, b: u8) -> u16
     a as u16 + 256 * (b as u16)
 }
 
-pub fn halfwords(area: &[u8], at: usize, out: &mut [u16])
+pub(crate) fn halfwords(area: &[u8], at: usize, out: &mut [u16])
     ensures { λ _. ⌜ Got at (2 * length (now (out .entry))) (each (le 2) (now (out .exit))) (now (area .entry)) ⌝ }
 {
     if !layout::has_room(area.len(), at, 2 * out.len()) {
@@ -64,7 +64,7 @@ pub fn halfwords(area: &[u8], at: usize, out: &mut [u16])
     }
 }
 
-pub fn bytes(area: &[u8], at: usize) -> [u8; PROCESSES]
+pub(crate) fn bytes(area: &[u8], at: usize) -> [u8; PROCESSES]
     ensures { λ r. ⌜ Got at processes (each byte r) (now (area .entry)) ⌝ }
 {
     let mut out = [0u8; PROCESSES];
@@ -79,7 +79,7 @@ pub fn bytes(area: &[u8], at: usize) -> [u8; PROCESSES]
     out
 }
 
-pub fn links(area: &[u8], at: usize) -> [Pid; NODES]
+pub(crate) fn links(area: &[u8], at: usize) -> [Pid; NODES]
     ensures { λ r. ⌜ Got at nodes (each pid r) (now (area .entry)) ⌝ }
 {
     let mut out = [Pid(0); NODES];
@@ -94,7 +94,7 @@ pub fn links(area: &[u8], at: usize) -> [Pid; NODES]
     out
 }
 
-pub fn box_links(area: &[u8], at: usize) -> [Bid; BOX_NODES]
+pub(crate) fn box_links(area: &[u8], at: usize) -> [Bid; BOX_NODES]
     ensures { λ r. ⌜ Got at boxNodes (each bid r) (now (area .entry)) ⌝ }
 {
     let mut out = [Bid(0); BOX_NODES];
@@ -109,7 +109,7 @@ pub fn box_links(area: &[u8], at: usize) -> [Bid; BOX_NODES]
     out
 }
 
-pub fn hands(area: &[u8], at: usize) -> [Bid; PROCESSES]
+pub(crate) fn hands(area: &[u8], at: usize) -> [Bid; PROCESSES]
     ensures { λ r. ⌜ Got at processes (each bid r) (now (area .entry)) ⌝ }
 {
     let mut out = [Bid(0); PROCESSES];
@@ -124,7 +124,7 @@ pub fn hands(area: &[u8], at: usize) -> [Bid; PROCESSES]
     out
 }
 
-pub fn procs(area: &[u8]) -> Procs
+pub(crate) fn procs(area: &[u8]) -> Procs
     ensures { λ r. ⌜ Got 0 procsLong (procs r) (now (area .entry)) ⌝ }
 {
     let running = Pid(byte(area, layout::RUNNING));
@@ -145,7 +145,7 @@ pub fn procs(area: &[u8]) -> Procs
     }
 }
 
-pub fn mail(area: &[u8]) -> Mail
+pub(crate) fn mail(area: &[u8]) -> Mail
     ensures { λ r. ⌜ Got procsLong mailLong (mail r) (now (area .entry)) ⌝ }
 {
     let next = box_links(area, layout::BOX_NEXT);

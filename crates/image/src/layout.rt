@@ -9,42 +9,42 @@ use sizes::QUEUES;
 use sizes::SEMAPHORES;
 
 // The nodes of the process queues and of the mailboxes' queues: a link on and a link back for each.
-pub const NODES: usize = PROCESSES + QUEUES;
+pub(crate) const NODES: usize = PROCESSES + QUEUES;
 
-pub const BOX_NODES: usize = BUFFERS + MAILBOXES;
+pub(crate) const BOX_NODES: usize = BUFFERS + MAILBOXES;
 
-pub const RUNNING: usize = 0;
+pub(crate) const RUNNING: usize = 0;
 
-pub const CLASS: usize = RUNNING + 1;
+pub(crate) const CLASS: usize = RUNNING + 1;
 
-pub const TICKS: usize = CLASS + PROCESSES;
+pub(crate) const TICKS: usize = CLASS + PROCESSES;
 
-pub const NEXT: usize = TICKS + PROCESSES;
+pub(crate) const NEXT: usize = TICKS + PROCESSES;
 
-pub const PREV: usize = NEXT + NODES;
+pub(crate) const PREV: usize = NEXT + NODES;
 
-pub const READY: usize = PREV + NODES;
+pub(crate) const READY: usize = PREV + NODES;
 
-pub const UNUSED: usize = READY + 4;
+pub(crate) const UNUSED: usize = READY + 4;
 
-pub const BOX_NEXT: usize = UNUSED + 4;
+pub(crate) const BOX_NEXT: usize = UNUSED + 4;
 
-pub const BOX_PREV: usize = BOX_NEXT + BOX_NODES;
+pub(crate) const BOX_PREV: usize = BOX_NEXT + BOX_NODES;
 
-pub const HAND: usize = BOX_PREV + BOX_NODES;
+pub(crate) const HAND: usize = BOX_PREV + BOX_NODES;
 
-pub const FULL: usize = HAND + PROCESSES;
+pub(crate) const FULL: usize = HAND + PROCESSES;
 
-pub const LENGTH: usize = FULL + 4;
+pub(crate) const LENGTH: usize = FULL + 4;
 
-pub const FREE: usize = LENGTH + 2 * BUFFERS;
+pub(crate) const FREE: usize = LENGTH + 2 * BUFFERS;
 
-pub const COUNT: usize = FREE + 4;
+pub(crate) const COUNT: usize = FREE + 4;
 
-pub const SIZE: usize = COUNT + 2 * SEMAPHORES;
+pub(crate) const SIZE: usize = COUNT + 2 * SEMAPHORES;
 
 // Whether w bytes from at on lie within n bytes.
-pub fn has_room(n: usize, at: usize, w: usize) -> bool
+pub(crate) fn has_room(n: usize, at: usize, w: usize) -> bool
     ensures { λ r. ⌜ r ≡ leb (at + w) n ⌝ }
 {
     if at > n {

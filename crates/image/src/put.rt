@@ -14,7 +14,7 @@ use sizes::Bid;
 use sizes::PROCESSES;
 use sizes::Pid;
 
-pub fn byte(area: &mut [u8], at: usize, x: u8)
+pub(crate) fn byte(area: &mut [u8], at: usize, x: u8)
     ensures { λ _. ⌜ Put at 1 (byte x) (now (area .entry)) (now (area .exit)) ⌝ }
 {
     if at < area.len() {
@@ -22,7 +22,7 @@ pub fn byte(area: &mut [u8], at: usize, x: u8)
     }
 }
 
-pub fn word(area: &mut [u8], at: usize, x: u32)
+pub(crate) fn word(area: &mut [u8], at: usize, x: u32)
     ensures { λ _. ⌜ Put at 4 (le 4 x) (now (area .entry)) (now (area .exit)) ⌝ }
 {
     if !layout::has_room(area.len(), at, 4) {
@@ -34,7 +34,7 @@ pub fn word(area: &mut [u8], at: usize, x: u32)
     area[at + 3] = (x / 16777216 % 256) as u8;
 }
 
-pub fn halfwords(area: &mut [u8], at: usize, xs: &[u16])
+pub(crate) fn halfwords(area: &mut [u8], at: usize, xs: &[u16])
     ensures { λ _. ⌜ Put at (2 * length (now (xs .entry))) (each (le 2) (now (xs .entry))) (now (area .entry)) (now (area .exit)) ⌝ }
 {
     if !layout::has_room(area.len(), at, 2 * xs.len()) {
@@ -49,7 +49,7 @@ pub fn halfwords(area: &mut [u8], at: usize, xs: &[u16])
     }
 }
 
-pub fn bytes(area: &mut [u8], at: usize, xs: &[u8])
+pub(crate) fn bytes(area: &mut [u8], at: usize, xs: &[u8])
     ensures { λ _. ⌜ Put at (length (now (xs .entry))) (each byte (now (xs .entry))) (now (area .entry)) (now (area .exit)) ⌝ }
 {
     if !layout::has_room(area.len(), at, xs.len()) {
@@ -62,21 +62,21 @@ pub fn bytes(area: &mut [u8], at: usize, xs: &[u8])
     }
 }
 
-pub fn links(area: &mut [u8], at: usize, xs: [Pid; NODES])
+pub(crate) fn links(area: &mut [u8], at: usize, xs: [Pid; NODES])
     ensures { λ _. ⌜ Put at nodes (each pid xs) (now (area .entry)) (now (area .exit)) ⌝ }
 {
     let numbers = queues::bytes_of(xs);
     bytes(area, at, &numbers);
 }
 
-pub fn box_links(area: &mut [u8], at: usize, xs: [Bid; BOX_NODES])
+pub(crate) fn box_links(area: &mut [u8], at: usize, xs: [Bid; BOX_NODES])
     ensures { λ _. ⌜ Put at boxNodes (each bid xs) (now (area .entry)) (now (area .exit)) ⌝ }
 {
     let numbers = boxes::bytes_of(xs);
     bytes(area, at, &numbers);
 }
 
-pub fn hands(area: &mut [u8], at: usize, xs: [Bid; PROCESSES])
+pub(crate) fn hands(area: &mut [u8], at: usize, xs: [Bid; PROCESSES])
     ensures { λ _. ⌜ Put at processes (each bid xs) (now (area .entry)) (now (area .exit)) ⌝ }
 {
     if !layout::has_room(area.len(), at, PROCESSES) {
@@ -90,7 +90,7 @@ pub fn hands(area: &mut [u8], at: usize, xs: [Bid; PROCESSES])
     }
 }
 
-pub fn procs(area: &mut [u8], p: Procs)
+pub(crate) fn procs(area: &mut [u8], p: Procs)
     ensures { λ _. ⌜ Put 0 procsLong (procs p) (now (area .entry)) (now (area .exit)) ⌝ }
 {
     let running = p.running;
@@ -108,7 +108,7 @@ pub fn procs(area: &mut [u8], p: Procs)
     word(area, layout::UNUSED, p.unused.0);
 }
 
-pub fn mail(area: &mut [u8], m: Mail)
+pub(crate) fn mail(area: &mut [u8], m: Mail)
     ensures { λ _. ⌜ Put procsLong mailLong (mail m) (now (area .entry)) (now (area .exit)) ⌝ }
 {
     let b = m.boxes;

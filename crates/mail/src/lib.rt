@@ -120,7 +120,7 @@ impl Mail {
         bits::has_bit(self.full.0, p.0 as u32)
     }
 
-    // The buffer in the hand of p, or 0 where the hand is empty.
+    // What the table of hands has for p; whether that is a buffer in hand, `has_message` says.
     pub fn in_hand(self, p: Pid) -> Bid
         ensures { λ r. ⌜ r .0 ≡ handAt (numbers self) (p .0) ⌝ }
     {

@@ -6,7 +6,7 @@ use Rattle.board.proofs.hand_back.Statement.{statement}
 use Rattle.board.proofs.hand_back.Tie as tie
 
 returns : tie.Need-returns
-returns c = record { sized = sized _ _ (c .before .before .before .before .before .before .before .good .1 .0 .1 .1 .0); written = c .before .before .before .write .ensures; answer = refl }
+returns c = record { sized = search sized; written = search; answer = refl }
 
 pub hand-back-spec : {M : Type 1} → statement M
 hand-back-spec = tie.close (tie.spec (λ c κs. search needs) (λ c. search needs) returns)
