@@ -1,1 +1,2 @@
-pub mod LineLaws
+pub mod Handing
+pub mod Theorems

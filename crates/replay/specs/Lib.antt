@@ -1,2 +1,2 @@
-pub mod Sizes
-pub mod Lines
+pub mod Replays
+pub mod Theorems

@@ -1,0 +1,10 @@
+pub mod Cutting
+pub mod BufferLaws
+pub mod Answering
+pub mod Taking
+pub mod Passing
+pub mod Laying
+pub mod Loop
+pub mod Ending
+pub mod Theorems
+pub mod Examples

@@ -1,0 +1,5 @@
+pub mod Cut
+pub mod Buffer
+pub mod Takes
+pub mod Promises
+pub mod Theorems
