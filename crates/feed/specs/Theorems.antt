@@ -46,7 +46,7 @@ abbrev pub OneFinish : Type 0
 OneFinish = (store line out store₁ store₂ out₁ out₂ : List ℕ) (o : Ongoing) (r₁ r₂ : Turn) → length line ≡ longestLine
     → Finishes store line out o store₁ out₁ r₁ → Finishes store line out o store₂ out₂ r₂ → Same r₁ r₂ store₁ store₂ out₁ out₂
 
--- 3. Any chunks, then the end.
+-- 3. Demand 2 (docs/KERNEL.md) of bytes: any chunks, then the end.
 
 -- Chunks one after another, over one store and one line buffer: `bytes` are those that were used of them, `written` is all that was written.
 pub data Chunks : Ongoing → List ℕ → List ℕ → List ℕ → List ℕ → Ongoing → List ℕ → List ℕ → Type 0 where

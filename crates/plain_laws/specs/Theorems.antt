@@ -18,7 +18,7 @@ pub record Soundness : Type 0 where
   pub always : (x : Settings) (cs : List Call) → Set x → Sound (after (start x) cs)
   pub settings-stay : (s : State) (c : Call) → step s c .next .settings ≡ s .settings
 
--- 2. A refusal is given where its condition holds and none before it in the order does, and at no other time; it changes nothing.
+-- 2. Demand 1 (docs/KERNEL.md) of the plain kernel: a refusal is given where its condition holds and none before it in the order does, and at no other time; it changes nothing.
 pub record Refusals : Type 0 where
   pub given : (s : State) (c : Call) (r : Refusal) → First (refusals s c) r → step s c ≡ refused r s
   pub only : (s : State) (c : Call) → isRefusal (step s c .answer) ≡ true → (r : Refusal) × First (refusals s c) r
@@ -43,7 +43,7 @@ abbrev pub Fairness : Type 0
 Fairness = (x : Settings) (cs later : List Call) (p : ℕ) → Set x → Ready (after (start x) cs .procs) p → Fair (x .slice) (after (start x) cs .procs) p (moments (after (start x) cs) later)
 
 -- 5. "Useless kernels to shut out". One that refuses everything, answers a constant or never moves would meet 4 alone: nobody ever becomes ready, or nobody behind another.
--- It does not answer as the plain kernel does, which demand 2 asks.
+-- It does not answer as the plain kernel does, which demand 2 (docs/KERNEL.md) asks.
 pub record Kernel : Type 1 where
   pub Memory : Type 0
   pub start : Memory

@@ -1,4 +1,4 @@
--- The program's theorem: where `every_turn` and then `finish` keep their promises, what was put into the area to be written is what the plain kernel's desk writes for the lines of all that was read. Proved under its own name in proofs/Theorems.antt.
+-- The program's theorem, demand 2 (docs/KERNEL.md) of what was read: where `every_turn` and then `finish` keep their promises, what was put into the area to be written is what the plain kernel's desk writes for the lines of all that was read. Proved under its own name in proofs/Theorems.antt.
 -- Assumes nothing.
 use Prim.Native.Nat.{ℕ, _<_}
 use mathlib.Core.List.{List, _++_}
