@@ -131,6 +131,42 @@ static void prepare_nobody(void) {
     csengadrul_fresh(S);
 }
 
+/* So many processes, each waiting: in one queue all of them, or each in a queue of its own, at the mailboxes first. */
+static void prepare_deep(uint32_t processes) {
+    uint32_t i;
+    csengadrul_fresh(S);
+    for (i = 0; i < processes; i++) {
+        csengadrul_create(S, 0);
+        csengadrul_wait(S, 5);
+    }
+}
+
+static void prepare_spread(uint32_t processes) {
+    uint32_t i;
+    csengadrul_fresh(S);
+    for (i = 0; i < processes; i++) {
+        csengadrul_create(S, 0);
+        if (i < CSENGADRUL_MAILBOXES) csengadrul_receive(S, i);
+        else csengadrul_wait(S, i - CSENGADRUL_MAILBOXES);
+    }
+}
+
+static void prepare_12_deep(void) {
+    prepare_deep(12);
+}
+
+static void prepare_12_spread(void) {
+    prepare_spread(12);
+}
+
+static void prepare_31_deep(void) {
+    prepare_deep(31);
+}
+
+static void prepare_31_spread(void) {
+    prepare_spread(31);
+}
+
 /* A free buffer's bit is off. */
 static void prepare_damaged(void) {
     prepare();
@@ -152,6 +188,8 @@ static void prepare_hand_512(void) {
     prepare();
     csengadrul_receive(S, 7);
 }
+
+#define LISTING csengadrul_listing(S, rows, CSENGADRUL_PROCESSES)
 
 /* name in the table, how the state is prepared, the call, the code that it gives */
 #define CALLS(row) \
@@ -176,7 +214,12 @@ static void prepare_hand_512(void) {
     row("signal, waking", prepare, csengadrul_signal(S, 5), CSENGADRUL_DONE) \
     row("wait", prepare, csengadrul_wait(S, 6), CSENGADRUL_DONE) \
     row("wait, waiting", prepare, csengadrul_wait(S, 9), CSENGADRUL_WAITS) \
-    row("listing", prepare, csengadrul_listing(S, rows, CSENGADRUL_PROCESSES), CSENGADRUL_DONE) \
+    row("listing", prepare, LISTING, CSENGADRUL_DONE) \
+    row("listing of nobody", prepare_nobody, LISTING, CSENGADRUL_DONE) \
+    row("listing of 12 in one queue", prepare_12_deep, LISTING, CSENGADRUL_DONE) \
+    row("listing of 12 in a queue each", prepare_12_spread, LISTING, CSENGADRUL_DONE) \
+    row("listing of 31 in one queue", prepare_31_deep, LISTING, CSENGADRUL_DONE) \
+    row("listing of 31 in a queue each", prepare_31_spread, LISTING, CSENGADRUL_DONE) \
     row("why of a waiter", prepare, csengadrul_why(S, 6), CSENGADRUL_DONE) \
     row("why of the fourth in a queue", prepare, csengadrul_why(S, 10), CSENGADRUL_DONE) \
     row("refused: listing of 31 rows", prepare, csengadrul_listing(S, rows, 31), CSENGADRUL_SHORT_ROOM) \

@@ -1,3 +1,3 @@
-pub mod Filled
 pub mod Listed
+pub mod Sheets
 pub mod Theorems

@@ -1,77 +1,69 @@
--- From a verdict to the promise: how many rows may be written, and that the rows written so are those of the promise.
+-- From the sheet to the promise: the rows that it allows have room, and written into a table they are those of the promise.
 -- Assumes nothing.
-use Prim.Native.Nat.{ℕ, _≤_, zero-le}
-use mathlib.Core.Bool.{Bool, true, false}
+use Prim.Native.Nat.{ℕ, _≤_}
+use mathlib.Core.Bool.{Bool, true, false, _&&_, true≢false}
 use mathlib.Core.List.{List}
-use mathlib.Core.Logic.{_≢_, ⊎-elim}
-use mathlib.Core.Path.{_≡_, refl, ap, _∙_}
+use mathlib.Core.Path.{_≡_, refl, sym, ap, _∙_}
 use native.Mathlib.Omega.{arith}
 use lib.Dec.{ltb}
 use lib.ListN.{length, getD}
-use borrow.Author.Tests.{eq-eqb, ne-eqb, ltb-true, ltb-false}
-use Rattle.lists.proofs.Laws.{same?}
+use borrow.Author.Tests.{ltb-true, ltb-false}
 use Rattle.lists.specs.Lists.{if_then_else_}
-use Rattle.plain.specs.Calls as Plain
 use Rattle.plain.specs.Listing.{row, listing}
 use Rattle.plain.specs.Sizes.{processes}
 use Rattle.plain.specs.State.{State}
-use Rattle.kernel.proofs.Judging.{runner-is, refused-call, accepted-call, judged-passed}
-use Rattle.kernel.specs.Holds.{Holds}
-use Rattle.kernel.specs.Judged.{Judged, refusedWith}
-use Rattle.kernel.specs.Promise.{Promised}
-use Rattle.kernel.specs.declared.Answer.{Answer}
-use Rattle.kernel.specs.declared.Kernel.{Kernel}
-use Rattle.verdicts.specs.declared.Verdict.{Verdict}
-use Rattle.plain_laws.proofs.Refusals.{Proper}
-use Rattle.image.specs.Image.{Sized, Read}
-use Rattle.board.proofs.Calls.{asked}
-use Rattle.rows.proofs.Rows.{row-is}
-use Rattle.rows.specs.Row.{asRow}
+use Rattle.plain_laws.specs.History.{isDone}
+use Rattle.promise.specs.Promise.{sound, unsound}
+use Rattle.rows.specs.Row.{asRow, bare, Each}
 use Rattle.rows.specs.declared.Row.{Row}
-use Rattle.listing.specs.Allowed.{refusals, allowed}
-use Rattle.listing.specs.Listed.{Tabled, Lists}
-use Rattle.listing.proofs.Filled.{filled, filled-length, past, among}
+use Rattle.rows.proofs.Filled.{filled, filled-length, past, among}
+use Rattle.listing.specs.Listed.{Lists}
+use Rattle.listing.specs.Sheets.{Sheets}
+use Rattle.listing.specs.declared.Sheet.{Sheet}
 
-proper : (m : ℕ) (s : State) → Proper (refusals m s)
-proper m s = (omega arith, tt)
+-- row i of a sheet
+abbrev pub rowOn : Sheet → ℕ → Row
+rowOn l i = getD (l .rows) i (bare 0)
 
--- what refuses writes no row
-none-allowed : (v : Verdict) → v .code ≢ 0 → allowed v ≡ 0
-none-allowed v d = rw (ne-eqb (v .code) 0 d) refl
+-- a listing is not refused only where the table has a row for each process
+has-room : (s : State) (m : ℕ) → isDone (listing s m) ≡ true → processes ≤ m
+unfolding listing
+has-room s m e = go (ltb m processes) refl
+  where
+    go : (b : Bool) → ltb m processes ≡ b → processes ≤ m
+    go true t = absurd (true≢false (sym (rw t at e)))
+    go false t = ltb-false m processes t
 
--- a table has room for the rows that a verdict allows
-pub room : (m : ℕ) (k : Kernel) (v : Verdict) → Judged (refusals m) k v → allowed v ≤ m
-room m k v j = ⊎-elim
-    (λ (z : v .code ≡ 0). let w = judged-passed (proper m) z j in rw (eq-eqb (v .code) 0 z) (ltb-false m processes (w .2 (w .0 .0) (w .0 .1) (w .0 .2) .0)))
-    (λ (d : v .code ≢ 0). rw (none-allowed v d) zero-le)
-    (same? (v .code) 0)
+-- the rows that a sheet allows have room in the table, and it has so many
+pub record Fit (m : ℕ) (l : Sheet) : Type 0 where
+  pub room : l .count ≤ m
+  pub long : l .count ≤ length (l .rows)
 
-module _ (ys : List Row) (k : Kernel) (v : Verdict) where
-  abbrev later : List Row
-  later = filled ys k (allowed v)
+module _ {m : ℕ} {l : Sheet} where
+  ruled-fit : (b : Bool) → (b ≡ true → processes ≤ m) → l .count ≡ (if b then processes else 0) → length (l .rows) ≡ processes → Fit m l
+  ruled-fit true h c e = let r = h refl in record { room = omega arith; long = omega arith }
+  ruled-fit false h c e = record { room = omega arith; long = omega arith }
 
-  abbrev Listing : Type 0
-  Listing = Promised (λ s. listing s (length ys)) (λ s. Tabled s ys later) (later ≡ ys) k (refusedWith k v)
+  pub fit : {area : List ℕ} → Sheets area m l → Fit m l
+  fit (sound i h) = let g = h (i .0) (i .1) (i .2) .1 in ruled-fit (isDone (listing (i .0) m)) (has-room (i .0) m) (g .count) (g .rows .long)
+  fit (unsound n k a b) = ruled-fit false (λ e. absurd (true≢false (sym e))) (b .count) (b .rows .long)
 
-  -- what is written where nothing refuses
-  written : (s : State) → Holds k s → ltb (length ys) processes ≡ false → Tabled s ys (filled ys k processes)
-  unfolding listing
-  written s H t = record { long = filled-length ys k processes; at = λ i d. rw t (at i d (ltb i processes) refl) }
+module _ (ys : List Row) (l : Sheet) where
+  abbrev pub later : List Row
+  later = filled ys (rowOn l) (l .count)
+
+  -- what stands at each index, where the listing is done and where it is refused
+  at : (s : State) (b : Bool) → (b ≡ true → processes ≤ length ys) → l .count ≡ (if b then processes else 0) → Each (λ i. if b then asRow (row s i) else bare 0) (l .rows)
+      → (i : ℕ) (d : Row) → getD later i d ≡ (if b && ltb i processes then asRow (row s i) else getD ys i d)
+  at s true h c e i d = rw c (go (ltb i processes) refl)
     where
-      at : (i : ℕ) (d : Row) (b : Bool) → ltb i processes ≡ b → getD (filled ys k processes) i d ≡ (if b then asRow (row s i) else getD ys i d)
-      at i d true e = among ys k processes i d (ltb-true i processes e) (ltb-false (length ys) processes t) ∙ row-is H i (ltb-true i processes e)
-      at i d false e = past ys k processes i d (ltb-false i processes e)
+      go : (t : Bool) → ltb i processes ≡ t → getD (filled ys (rowOn l) processes) i d ≡ (if t then asRow (row s i) else getD ys i d)
+      go true t = let p = ltb-true i processes t in among ys (rowOn l) processes i d p (h refl) ∙ e .at i (bare 0) p
+      go false t = past ys (rowOn l) processes i d (ltb-false i processes t)
+  at s false h c e i d = rw c
 
-  listed : Judged (refusals (length ys)) k v → Listing
-  unfolding listing
-  listed j = ⊎-elim
-      (λ (z : v .code ≡ 0). accepted-call (refusals (length ys)) (Plain.done 0) (λ s. Tabled s ys later) (later ≡ ys) k v (proper (length ys)) z j (refusedWith k v)
-      (λ s H S p is. rw (judged-passed (proper (length ys)) z j .1) (record { next = H; answer = rw (runner-is k s H) refl }, written s H (p .0))))
-      (λ (d : v .code ≢ 0). let same : later ≡ ys = ap (filled ys k) (none-allowed v d) in
-      refused-call (refusals (length ys)) (Plain.done 0) (λ s. Tabled s ys later) (later ≡ ys) k v (proper (length ys)) d j
-      (λ s n. rw same (record { long = refl; at = λ i b. rw n refl })) same)
-      (same? (v .code) 0)
-
-  -- the rows that the verdict allows, and the answer to it, are those of the promise
-  pub lists : {area : List ℕ} {n : ℕ} {a : Answer} → Sized k → Read area k → Judged (refusals (length ys)) k v → n ≡ allowed v → a ≡ refusedWith k v .answer → Lists ys (filled ys k n) area a
-  lists z r j en ea = rw (en, ea) (asked z r (listed j))
+  -- the rows that a sheet allows, and its answer, are those of the promise
+  pub lists : {area : List ℕ} → Sheets area (length ys) l → Lists ys later area (l .answer)
+  lists (sound i h) = sound i (λ s H S. let g = h s H S in
+      (g .0, record { long = filled-length ys (rowOn l) (l .count); at = at s (isDone (listing s (length ys))) (has-room s (length ys)) (g .1 .count) (g .1 .rows) }))
+  lists (unsound n k a b) = unsound n k a (ap (filled ys (rowOn l)) (b .count))

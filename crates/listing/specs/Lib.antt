@@ -1,3 +1,4 @@
-pub mod Allowed
 pub mod Listed
+pub mod Refusals
+pub mod Sheets
 pub mod Theorems

@@ -6,7 +6,7 @@ ghost use Rattle.rings.specs.Moves.{MadeFresh, JoinedRear, JoinedFront, HasLeft
 ghost use Rattle.queues.specs.Queue.{processes, queues, num, tablesOf};
 use sizes::Pid;
 
-pub mod back;
+pub mod notes;
 
 pub(crate) const PROCESSES: u8 = sizes::PROCESSES as u8;
 

@@ -8,21 +8,19 @@ ghost use Rattle.plain.specs.Why as Plain;
 ghost use Rattle.procs.specs.Stands as Stands;
 ghost use Rattle.kernel.specs.Holds.{Holds};
 ghost use Rattle.kernel.specs.Judged.{Judged};
-ghost use Rattle.reasons.specs.Numbered.{runner, reasonAt, refusals};
+ghost use Rattle.reasons.specs.Numbered.{runner, reasonBy, reasonAt, refusals};
 ghost use Rattle.reasons.specs.Reasons.{meant, given, Explains};
 use kernel::Answer;
 use kernel::Kernel;
 use procs::Procs;
 use procs::entry;
-use queues::back::standing_of;
+use rows::spots::AT_MAILBOX;
+use rows::spots::AT_SEMAPHORE;
+use rows::spots::READY;
+use rows::spots::Spot;
+use rows::spots::spot_of;
 use sizes::Pid;
 use verdicts::Verdict;
-
-const AT_MAILBOXES: u8 = sizes::AT_MAILBOXES as u8;
-
-const AT_SEMAPHORES: u8 = sizes::AT_SEMAPHORES as u8;
-
-const QUEUES: u8 = sizes::QUEUES as u8;
 
 pub enum Reason {
     Unused,
@@ -86,19 +84,19 @@ fn ready(running: Pid, class: u8, c: u8, ahead: u8) -> Reason
     Reason::Ready(ahead + 1)
 }
 
-// In queue q with so many ahead, while a process of that class runs.
-fn reason_in(running: Pid, class: u8, q: u8, ahead: u8) -> Reason
-    requires { ⌜ ahead ≤ processes ⌝ }
-    ensures { λ r. ⌜ meant r ≡ Plain.reasonIn (runner (running .0) class) q ahead ⌝ }
+// At that spot, while a process of that class runs.
+fn reason_at(running: Pid, class: u8, s: Spot) -> Reason
+    requires { ⌜ s .position ≤ processes ⌝ }
+    ensures { λ r. ⌜ meant r ≡ reasonBy (runner (running .0) class) s ⌝ }
 {
-    if q < AT_MAILBOXES {
-        return ready(running, class, q, ahead);
+    if s.place == READY {
+        return ready(running, class, s.which, s.position);
     }
-    if q < AT_SEMAPHORES {
-        return Reason::Mailbox(q - AT_MAILBOXES, ahead);
+    if s.place == AT_MAILBOX {
+        return Reason::Mailbox(s.which, s.position);
     }
-    if q < QUEUES {
-        return Reason::Semaphore(q - AT_SEMAPHORES, ahead);
+    if s.place == AT_SEMAPHORE {
+        return Reason::Semaphore(s.which, s.position);
     }
     Reason::Unused
 }
@@ -115,9 +113,9 @@ fn reason_of(k: Procs, p: Pid) -> Reason
     }
     let class = k.class;
     let queues = k.queues;
-    let prev = queues.prev;
-    let at = standing_of(prev, p);
-    reason_in(running, entry(class, running), at.queue, at.ahead)
+    let next = queues.next;
+    let at = spot_of(next, p);
+    reason_at(running, entry(class, running), at)
 }
 
 fn judge(k: Kernel, p: u32) -> Verdict

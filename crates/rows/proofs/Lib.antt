@@ -1,2 +1,5 @@
+pub mod Each
+pub mod Filled
+pub mod Places
 pub mod Rows
 pub mod Theorems

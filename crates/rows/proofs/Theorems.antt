@@ -1,7 +1,7 @@
 -- The theorem of specs/Theorems.antt.
 -- Assumes nothing.
-use mathlib.Core.Path.{sym, _∙_}
-use Rattle.rows.specs.Theorems.{OneRow}
+use Rattle.rows.specs.Theorems.{OneTable}
+use Rattle.rows.proofs.Each.{one-each}
 
-pub one-row : OneRow
-one-row k i r r′ s s′ = s .whole ∙ sym (s′ .whole)
+pub one-table : OneTable
+one-table k t t′ s s′ = let e = one-each (s .whole) (s′ .whole) in λ i. record { rows = e i }

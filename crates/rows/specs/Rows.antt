@@ -1,12 +1,10 @@
--- The promise about a row: for any struct in its numbers, and the plain kernel's row where the struct holds a plain state.
+-- The promise about the rows: for any struct in its numbers, and the plain kernel's rows where the struct holds a plain state.
 -- Assumes nothing.
-use Prim.Native.Nat.{ℕ, _<_}
-use mathlib.Core.Path.{_≡_}
-use lib.Dec.{eqb, ltb}
+use Prim.Native.Nat.{ℕ}
+use lib.Dec.{eqb}
 use Rattle.bits.specs.Word.{bit}
 use Rattle.lists.specs.Lists.{if_then_else_}
 use Rattle.plain.specs.Listing as Plain
-use Rattle.plain.specs.Sizes.{processes}
 use Rattle.plain.specs.State.{State}
 use Rattle.procs.specs.Moves.{classAt, ticksAt}
 use Rattle.procs.specs.Stands as Stands
@@ -15,33 +13,41 @@ use Rattle.mail.specs.Moves.{hasMessage, lengthInHand}
 use Rattle.kernel.specs.Holds.{Holds}
 use Rattle.kernel.specs.declared.Kernel.{Kernel}
 use Rattle.rows.specs.Places.{spotOf}
-use Rattle.rows.specs.Row.{asRow}
+use Rattle.rows.specs.Row.{asRow, bare, Each}
+use Rattle.rows.specs.declared.Held.{Held}
 use Rattle.rows.specs.declared.Row.{Row}
-use Rattle.rows.specs.declared.Spot.{Spot}
+use Rattle.rows.specs.declared.spots.Spot.{Spot}
+use Rattle.rows.specs.declared.Table.{Table}
 
--- zeros after the place
-abbrev pub bare : ℕ → Row
-bare place = record { place = place; which = 0; position = 0; class = 0; ticks = 0; full = 0; length = 0 }
+-- the row of process 0: "5 the null process standing by", or 1 where it runs
+abbrev pub nullRow : ℕ → Row
+nullRow running = bare (if eqb running 0 then 1 else 5)
 
--- "class, ticks left, 1 if the hand is full, length in hand"
-unfoldable pub rowWith : Kernel → ℕ → Spot → Row
-rowWith k p s = record {
+-- "1 if the hand is full, length in hand"
+unfoldable pub heldBy : Carries.Numbers → ℕ → Held
+heldBy m p = record { full = bit (hasMessage m p); length = lengthInHand m p }
+
+abbrev pub rowWith : Spot → ℕ → ℕ → Held → Row
+rowWith s class ticks hand = record {
   place = s .place;
   which = s .which;
   position = s .position;
-  class = classAt (Stands.numbers (k .procs)) p;
-  ticks = ticksAt (Stands.numbers (k .procs)) p;
-  full = bit (hasMessage (Carries.numbers (k .mail)) p);
-  length = lengthInHand (Carries.numbers (k .mail)) p;
+  class = class;
+  ticks = ticks;
+  full = hand .full;
+  length = hand .length;
 }
 
--- the row of process i, "5 the null process standing by" included; zeros where there is no such process
-unfoldable pub rowIn : Kernel → ℕ → Row
-rowIn k i =
-    if eqb i 0 then bare (if eqb (k .procs .running .0) 0 then 1 else 5)
-    else (if ltb i processes then rowWith k i (spotOf (Stands.numbers (k .procs)) i) else bare 0)
+-- the row of any process but 0
+abbrev pub rowOf : Kernel → ℕ → Row
+rowOf k p =
+    let n : Stands.Numbers = Stands.numbers (k .procs) in
+    rowWith (spotOf n p) (classAt n p) (ticksAt n p) (heldBy (Carries.numbers (k .mail)) p)
 
--- r is the row of process i
-pub record Shows (k : Kernel) (i : ℕ) (r : Row) : Type 0 where
-  pub whole : r ≡ rowIn k i
-  pub plain : (s : State) → Holds k s → i < processes → r ≡ asRow (Plain.row s i)
+unfoldable pub rowIn : Kernel → ℕ → Row
+rowIn k p = if eqb p 0 then nullRow (k .procs .running .0) else rowOf k p
+
+-- t has the rows of all processes: for any struct by its numbers, and the plain kernel's where the struct holds a plain state
+pub record Shows (k : Kernel) (t : Table) : Type 0 where
+  pub whole : Each (rowIn k) (t .rows)
+  pub plain : (s : State) → Holds k s → Each (λ i. asRow (Plain.row s i)) (t .rows)

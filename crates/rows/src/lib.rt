@@ -1,37 +1,23 @@
-// The row of a process in a listing, by value.
+// The rows of all processes in a listing, by value.
 // Any struct has rows, wherever its links lead.
 ghost use mathlib.Core.Path.{_≡_};
-ghost use Rattle.bits.specs.Word.{bit};
-ghost use Rattle.procs.specs.Stands as Stands;
 ghost use Rattle.mail.specs.Carries as Carries;
 ghost use Rattle.mail.specs.Moves.{lengthInHand};
-ghost use Rattle.rows.specs.Places.{nowhere, spotIn, spotOf};
-ghost use Rattle.rows.specs.Rows.{bare, rowWith, Shows};
+ghost use Rattle.rows.specs.Row.{bare};
+ghost use Rattle.rows.specs.Rows.{nullRow, heldBy, rowWith, Shows};
+use crate::spots::Spot;
+use crate::spots::spot_from;
+use crate::spots::spots_of;
 use kernel::Kernel;
 use mail::Mail;
-use procs::Procs;
-use procs::entry;
-use queues::back::standing_of;
 use sizes::Pid;
 
-const PROCESSES: u8 = sizes::PROCESSES as u8;
+pub mod spots;
 
-const AT_MAILBOXES: u8 = sizes::AT_MAILBOXES as u8;
-
-const AT_SEMAPHORES: u8 = sizes::AT_SEMAPHORES as u8;
-
-const QUEUES: u8 = sizes::QUEUES as u8;
-
-// The places of a row.
+// The places of a row that are not in queues.
 const UNUSED: u8 = 0;
 
-const RUNNING: u8 = 1;
-
-const READY: u8 = 2;
-
-const WAITS_AT_MAILBOX: u8 = 3;
-
-const WAITS_AT_SEMAPHORE: u8 = 4;
+pub(crate) const RUNNING: u8 = 1;
 
 const STANDING_BY: u8 = 5;
 
@@ -46,77 +32,15 @@ pub struct Row {
     pub length: u16,
 }
 
-// The first three columns of a row.
-struct Spot {
-    place: u8,
-    which: u8,
-    position: u8,
+// The last two columns of a row.
+struct Held {
+    full: u8,
+    length: u16,
 }
 
-fn nowhere() -> Spot
-    ensures { λ r. ⌜ r ≡ nowhere ⌝ }
-{
-    Spot {
-        place: UNUSED,
-        which: 0,
-        position: 0,
-    }
-}
-
-// In queue q, with so many ahead.
-fn spot_in(q: u8, position: u8) -> Spot
-    ensures { λ r. ⌜ r ≡ spotIn q position ⌝ }
-{
-    if q < AT_MAILBOXES {
-        return Spot {
-            place: READY,
-            which: q,
-            position,
-        };
-    }
-    if q < AT_SEMAPHORES {
-        return Spot {
-            place: WAITS_AT_MAILBOX,
-            which: q - AT_MAILBOXES,
-            position,
-        };
-    }
-    if q < QUEUES {
-        return Spot {
-            place: WAITS_AT_SEMAPHORE,
-            which: q - AT_SEMAPHORES,
-            position,
-        };
-    }
-    nowhere()
-}
-
-// Where p stands, if it is not 0.
-fn spot_of(k: Procs, p: Pid) -> Spot
-    ensures { λ r. ⌜ r ≡ spotOf (Stands.numbers k) (p .0) ⌝ }
-{
-    let running = k.running;
-    if p.0 == running.0 {
-        let class = k.class;
-        return Spot {
-            place: RUNNING,
-            which: entry(class, p),
-            position: 0,
-        };
-    }
-    let queues = k.queues;
-    let prev = queues.prev;
-    let at = standing_of(prev, p);
-    spot_in(at.queue, at.ahead)
-}
-
-fn bit(full: bool) -> u8
-    ensures { λ r. ⌜ r ≡ bit full ⌝ }
-{
-    if full {
-        return 1;
-    }
-    0
+// A row for each process, row i for process i.
+pub struct Table {
+    pub rows: [Row; sizes::PROCESSES],
 }
 
 // Zeros after the place.
@@ -134,6 +58,16 @@ fn bare(place: u8) -> Row
     }
 }
 
+// The row of process 0.
+fn null_row(running: Pid) -> Row
+    ensures { λ r. ⌜ r ≡ nullRow (running .0) ⌝ }
+{
+    if running.0 == 0 {
+        return bare(RUNNING);
+    }
+    bare(STANDING_BY)
+}
+
 // The length of the message in the hand of p.
 fn length_in_hand(mail: Mail, p: Pid) -> u16
     ensures { λ r. ⌜ r ≡ lengthInHand (Carries.numbers mail) (p .0) ⌝ }
@@ -141,40 +75,54 @@ fn length_in_hand(mail: Mail, p: Pid) -> u16
     mail.length_in_hand(p) as u16
 }
 
-// The row of p, who stands there.
-fn row_with(k: Kernel, p: Pid, s: Spot) -> Row
-    ensures { λ r. ⌜ r ≡ rowWith k (p .0) s ⌝ }
+fn hand_of(mail: Mail, p: Pid) -> Held
+    ensures { λ r. ⌜ r ≡ heldBy (Carries.numbers mail) (p .0) ⌝ }
 {
-    let procs = k.procs;
-    let class = procs.class;
-    let ticks = procs.ticks;
-    let mail = k.mail;
+    if mail.has_message(p) {
+        return Held {
+            full: 1,
+            length: length_in_hand(mail, p),
+        };
+    }
+    Held { full: 0, length: 0 }
+}
+
+fn row_with(s: Spot, class: u8, ticks: u8, hand: Held) -> Row
+    ensures { λ r. ⌜ r ≡ rowWith s class ticks hand ⌝ }
+{
     Row {
         place: s.place,
         which: s.which,
         position: s.position,
-        class: entry(class, p),
-        ticks: entry(ticks, p),
-        full: bit(mail.has_message(p)),
-        length: length_in_hand(mail, p),
+        class,
+        ticks,
+        full: hand.full,
+        length: hand.length,
     }
 }
 
-// The row of process i; zeros where there is no such process.
-pub fn row_of(k: Kernel, i: u32) -> Row
-    ensures { λ r. ⌜ Shows k i r ⌝ }
+// The spots are found for all at once; then each row is made.
+pub fn table_of(k: Kernel) -> Table
+    ensures { λ r. ⌜ Shows k r ⌝ }
 {
     let procs = k.procs;
+    let mail = k.mail;
+    let class = procs.class;
+    let ticks = procs.ticks;
     let running = procs.running;
-    if i == 0 {
-        if running.0 == 0 {
-            return bare(RUNNING);
-        }
-        return bare(STANDING_BY);
+    let at = spots_of(procs);
+    let zeros = bare(UNUSED);
+    let mut rows = [zeros; sizes::PROCESSES];
+    let mut i = 0;
+    while i < sizes::PROCESSES {
+        rows[i] = row_with(
+            spot_from(at[i]),
+            class[i],
+            ticks[i],
+            hand_of(mail, Pid(i as u8)),
+        );
+        i += 1;
     }
-    if PROCESSES as u32 <= i {
-        return bare(UNUSED);
-    }
-    let p = Pid(i as u8);
-    row_with(k, p, spot_of(procs, p))
+    rows[0] = null_row(running);
+    Table { rows }
 }
