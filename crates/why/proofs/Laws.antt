@@ -20,14 +20,8 @@ use Rattle.reasons.specs.declared.Explained as Code
 use Rattle.kernel.specs.Promise.{said}
 use Rattle.board.specs.Area.{Lies, IsSound}
 use Rattle.wording.specs.Words.{sentence}
-use Rattle.why.specs.Promise.{noProcess, notSound, Refused, refused, Explained, unsound, nobody, known, Gives}
-use Rattle.why.specs.declared.telling.Told.{Told}
-
--- the same text, meant otherwise
-pub gives-as : {Is Is′ : Bool → List ℕ → Type 0} {old new : List ℕ} {r : Told} → ((good : Bool) (text : List ℕ) → Is good text → Is′ good text) → Gives Is old new r → Gives Is′ old new r
-gives-as {r} f g = record { text = g .text; is = f (r .good) (g .text) (g .is); short = g .short; written = g .written }
-
--- ---- the answer to the question
+use Rattle.telling.specs.Told.{notSound, Refused, refused}
+use Rattle.why.specs.Promise.{noProcess, Explained, unsound, nobody, known}
 
 -- the plain kernel refuses it for who is no process, with 1, and for nobody else
 given : (s : State) (p : ℕ) → p < processes → why s p .answer .code ≡ 0

@@ -1,26 +1,17 @@
 -- The theorems: a word and an area say the text, and there is room for every text.
 -- Assumes nothing.
 use Prim.Native.Nat.{ℕ}
-use mathlib.Core.Bool.{Bool, true, false}
+use mathlib.Core.Bool.{Bool}
 use mathlib.Core.List.{List}
 use mathlib.Core.Option.{Option, none, some}
-use mathlib.Core.Path.{_≡_, refl, sym, subst, _∙_}
+use mathlib.Core.Path.{_≡_, refl, sym, _∙_}
 use native.Mathlib.Omega.{arith}
-use lib.Dec.{eqb}
-use lib.ListN.{length}
-use Rattle.lists.specs.Lists.{if_then_else_}
-use Rattle.answers.specs.Written.{Written}
 use Rattle.script.specs.Grammar.{number}
-use Rattle.answers.proofs.AreaLaws.{written-whole}
-use Rattle.why.specs.Promise.{noState, Refused, refused, Explained, unsound, nobody, known, About, Tells}
+use Rattle.telling.specs.Theorems.{Same, One}
+use Rattle.telling.proofs.Theorems.{one-fault, one-of-input, one-told, text-fits}
+use Rattle.wording.specs.Promises.{room}
+use Rattle.why.specs.Promise.{noNumber, Explained, unsound, nobody, known, Tells}
 use Rattle.why.specs.Theorems.{OneText, EveryTextFits}
-
-record Same (good₁ good₂ : Bool) (text₁ text₂ : List ℕ) : Type 0 where
-  good : good₁ ≡ good₂
-  text : text₁ ≡ text₂
-
-one-fault : {words text₁ text₂ : List ℕ} {good₁ good₂ : Bool} → Refused words good₁ text₁ → Refused words good₂ text₂ → Same good₁ good₂ text₁ text₂
-one-fault refused refused = record { good = refl; text = refl }
 
 one-reason : {area text₁ text₂ : List ℕ} {p : ℕ} {good₁ good₂ : Bool} → Explained area p good₁ text₁ → Explained area p good₂ text₂ → Same good₁ good₂ text₁ text₂
 one-reason (unsound n) (unsound m) = record { good = refl; text = refl }
@@ -33,23 +24,12 @@ one-reason (known i l h) (unsound m) = absurd (m i)
 one-reason (known i l h) (nobody j k) = absurd (omega (arith, l, k))
 one-reason (known i l h) (known j l′ k) = record { good = refl; text = h (i .0) (i .1) (i .2) ∙ sym (k (i .0) (i .1) (i .2)) }
 
-one-about : {text₁ text₂ : List ℕ} {good₁ good₂ : Bool} (area : List ℕ) (p : ℕ) → About area p good₁ text₁ → About area p good₂ text₂ → Same good₁ good₂ text₁ text₂
-one-about {text₁} {text₂} {good₁} {good₂} area p a b = go (eqb (length area) 0) a b
-  where
-    go : (t : Bool) → (if t then Refused noState good₁ text₁ else Explained area p good₁ text₁) → (if t then Refused noState good₂ text₂ else Explained area p good₂ text₂) → Same good₁ good₂ text₁ text₂
-    go true c d = one-fault c d
-    go false c d = one-reason c d
-
-one-told : {text₁ text₂ : List ℕ} {good₁ good₂ : Bool} (area : List ℕ) (o : Option ℕ) → Tells area o good₁ text₁ → Tells area o good₂ text₂ → Same good₁ good₂ text₁ text₂
-one-told area none a b = one-fault a b
-one-told area (some p) a b = one-about area p a b
+one-answer : (area : List ℕ) (o : Option ℕ) → One (Tells area o)
+one-answer area none = one-fault noNumber
+one-answer area (some p) = one-of-input area (Explained area p) (λ _ _ _ _. one-reason)
 
 pub one-text : OneText
-one-text area word old new new′ r r′ a b =
-    let e = one-told area (number word) (a .is) (b .is) in
-    let w = subst (λ (t : List ℕ). Written t old new′ (r′ .length)) (sym (e .text)) (b .written) in
-    let count = a .written .counted ∙ sym (w .counted) in
-    ((λ i. record { good = e .good i; length = count i }), a .written .content ∙ sym (w .content))
+one-text area word = one-told (Tells area (number word)) (one-answer area (number word)) room
 
 pub every-text-fits : EveryTextFits
-every-text-fits area word old new r a h = written-whole (a .written) (omega (arith, a .short))
+every-text-fits area word = text-fits (Tells area (number word)) room

@@ -5,39 +5,27 @@ use mathlib.Core.Bool.{Bool, true, false}
 use mathlib.Core.List.{List}
 use mathlib.Core.Option.{Option, none, some}
 use mathlib.Core.Path.{_≡_}
-use lib.Dec.{eqb}
-use lib.ListN.{length}
-use Rattle.lists.specs.Lists.{if_then_else_}
 use Rattle.plain.specs.Sizes.{processes}
 use Rattle.plain.specs.Sound.{Sound}
 use Rattle.plain.specs.State.{State}
 use Rattle.plain.specs.Why.{reason}
 use Rattle.answers.specs.Ascii.{ascii}
-use Rattle.answers.specs.Written.{Written}
 use Rattle.script.specs.Grammar.{number}
 use Rattle.board.specs.Area.{Lies, IsSound}
 use Rattle.wording.specs.Promises.{room}
 use Rattle.wording.specs.Words.{sentence}
-use Rattle.why.specs.declared.telling.Told.{Told}
+use Rattle.telling.specs.Told.{notSound, Refused, OfInput, Gives}
+use Rattle.telling.specs.declared.Told.{Told}
 
--- ---- the faults
+-- ---- the faults of its own
 
 abbrev pub noNumber : List ℕ
 noNumber = ascii "Which process? A number from 0 to 31 is wanted."
-
-abbrev pub noState : List ℕ
-noState = ascii "There is no state on standard input."
-
-abbrev pub notSound : List ℕ
-notSound = ascii "This is not a sound state: it is damaged, or no state area at all."
 
 abbrev pub noProcess : List ℕ
 noProcess = ascii "There is no such process: they are numbered 0 to 31."
 
 -- ---- whether it is a reason, and which text it is
-
-pub data Refused (words : List ℕ) : Bool → List ℕ → Type 0 where
-  refused : Refused words false words
 
 -- the sentence of the plain kernel's reason, where a sound state lies in the area and p is a process
 pub data Explained (area : List ℕ) (p : ℕ) : Bool → List ℕ → Type 0 where
@@ -45,22 +33,12 @@ pub data Explained (area : List ℕ) (p : ℕ) : Bool → List ℕ → Type 0 wh
   nobody : IsSound area → processes ≤ p → Explained area p false noProcess
   known : {text : List ℕ} → IsSound area → p < processes → ((s : State) → Lies area s → Sound s → text ≡ sentence p (reason s p)) → Explained area p true text
 
-abbrev pub About : List ℕ → ℕ → Bool → List ℕ → Type 0
-About area p good text = if eqb (length area) 0 then Refused noState good text else Explained area p good text
-
 abbrev pub Tells : List ℕ → Option ℕ → Bool → List ℕ → Type 0
 Tells area none good text = Refused noNumber good text
-Tells area (some p) good text = About area p good text
+Tells area (some p) good text = OfInput area (Explained area p) good text
 
 -- ---- the promise
 
--- the text that is meant, which a room of `room` bytes takes, is written over the start of the area `old`
-pub record Gives (Is : Bool → List ℕ → Type 0) (old new : List ℕ) (r : Told) : Type 0 where
-  pub text : List ℕ
-  pub is : Is (r .good) text
-  pub short : length text ≤ room
-  pub written : Written text old new (r .length)
-
 -- for the area and the word that are given, a number being written as at the desk
 abbrev pub Answers : List ℕ → List ℕ → List ℕ → List ℕ → Told → Type 0
-Answers area word = Gives (Tells area (number word))
+Answers area word = Gives room (Tells area (number word))

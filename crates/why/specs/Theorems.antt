@@ -5,8 +5,8 @@ use mathlib.Core.List.{List}
 use mathlib.Core.Path.{_≡_}
 use lib.ListN.{length, take}
 use Rattle.wording.specs.Promises.{room}
+use Rattle.telling.specs.declared.Told.{Told}
 use Rattle.why.specs.Promise.{Answers}
-use Rattle.why.specs.declared.telling.Told.{Told}
 
 -- 1. No second text: for one word and one area, what meets the promise is equal.
 abbrev pub OneText : Type 0

@@ -1,6 +1,6 @@
 // Why a process waits, for a stagehand: its number as the one argument, a state area on standard input, one line written.
 // A reason goes to standard output, a word on what is wrong with the question to standard error. Assumes nothing.
-mod telling;
+mod explaining;
 
 use libc::STDERR_FILENO;
 use libc::STDIN_FILENO;
@@ -24,7 +24,7 @@ fn main() {
     let mut state = [0u8; INPUT];
     let got = io::read_full(STDIN_FILENO, &mut state);
     let mut out = [0u8; LONGEST];
-    let told = telling::tell(&state[..got], &word[..letters], &mut out);
+    let told = explaining::tell(&state[..got], &word[..letters], &mut out);
     let end = told.length;
     if told.good {
         write_line(STDOUT_FILENO, &out[..end]);

@@ -25,7 +25,7 @@ unfolding more
 more-fits s l h = take-all room (s ++ l) h
 
 module _ (t : Phrase) (size : length (t .bytes) ≡ room) where
-  shown-short : length (soFar t) ≤ room
+  pub shown-short : length (soFar t) ≤ room
   shown-short = omega (arith, length-take (t .length) (t .bytes))
 
   pub more-none : soFar t ≡ more (soFar t) []

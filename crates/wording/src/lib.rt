@@ -1,5 +1,7 @@
-// A reason in words: the desk's, and a sentence for a stagehand. Assumes nothing.
+// In words: a reason, at the desk and for a stagehand, and the rows of a state, as a page. Assumes nothing.
+mod page;
 mod phrase;
+mod row;
 mod sentence;
 mod words;
 
@@ -8,17 +10,23 @@ ghost use lib.ListN.{length};
 ghost use Rattle.answers.specs.Answer.{answer};
 ghost use Rattle.answers.specs.Written.{Written};
 ghost use Rattle.reasons.specs.Reasons.{meant};
+ghost use Rattle.wording.specs.Page.{page, pageRoom, rowAt};
 ghost use Rattle.wording.specs.Promises.{room};
 ghost use Rattle.wording.specs.Words.{reasonLine, sentence};
 use crate::phrase::nothing;
 use crate::phrase::say;
 use crate::phrase::say_number;
 use reasons::Reason;
+use rows::Row;
+use sizes::PROCESSES;
 
 // An area of so many bytes takes every line and every sentence.
 pub const LONGEST: usize = phrase::ROOM;
 
-// put_reason_line and put_sentence write at the start of out and give the length written. Where out is too short they write nothing and give 0.
+// An area of so many bytes takes every page.
+pub const LONGEST_PAGE: usize = page::LINES * LONGEST;
+
+// Each put_ function writes at the start of out and gives the length written. Where out is too short it writes nothing and gives 0.
 
 pub fn put_reason_line(
     out: &mut [u8],
@@ -39,4 +47,14 @@ pub fn put_sentence(out: &mut [u8], process: u8, reason: Reason) -> usize
 {
     let who = say_number(say(nothing(), b"Process "), process);
     phrase::put(out, sentence::say_about(who, reason))
+}
+
+// The page of the rows of all processes.
+pub fn put_page(out: &mut [u8], rows: [Row; PROCESSES]) -> usize
+    ensures { λ r. ⌜ Written (page (rowAt rows)) (now (out .entry)) (now (out .exit)) r ⌝ }
+    ensures { λ r. ⌜ length (page (rowAt rows)) ≤ pageRoom ⌝ }
+{
+    let mut text = [0; LONGEST_PAGE];
+    let end = page::lay_page(&mut text, rows);
+    answers::area::put(out, &text[..end])
 }

@@ -10,7 +10,7 @@ ghost use Rattle.wording.specs.Promises.{room, soFar, more};
 pub(crate) const ROOM: usize = 96;
 
 pub(crate) struct Phrase {
-    bytes: [u8; ROOM],
+    pub bytes: [u8; ROOM],
     length: usize,
 }
 
@@ -30,7 +30,7 @@ pub(crate) fn line(code: u32, number: u32, running: u32) -> Phrase
     Phrase { bytes, length }
 }
 
-fn add(t: Phrase, b: u8) -> Phrase
+pub(crate) fn add(t: Phrase, b: u8) -> Phrase
     ensures { λ r. ⌜ soFar r ≡ more (soFar t) (b ∷ []) ⌝ }
 {
     let at = t.length;
@@ -57,16 +57,22 @@ pub(crate) fn say(t: Phrase, piece: &[u8]) -> Phrase
     text
 }
 
-pub(crate) fn say_number(t: Phrase, n: u8) -> Phrase
+pub(crate) fn say_decimal(t: Phrase, n: u32) -> Phrase
     ensures { λ r. ⌜ soFar r ≡ more (soFar t) (decimal n) ⌝ }
 {
     let mut digits = [0; 10];
-    let end = answers::put_decimal(&mut digits, n as u32);
+    let end = answers::put_decimal(&mut digits, n);
     say(t, &digits[..end])
 }
 
+pub(crate) fn say_number(t: Phrase, n: u8) -> Phrase
+    ensures { λ r. ⌜ soFar r ≡ more (soFar t) (decimal n) ⌝ }
+{
+    say_decimal(t, n as u32)
+}
+
 // How many of the bytes are the text.
-fn used(t: Phrase) -> usize
+pub(crate) fn used(t: Phrase) -> usize
     ensures { λ r. ⌜ (r ≤ room) × (take r (t .bytes) ≡ soFar t) ⌝ }
 {
     if ROOM <= t.length {

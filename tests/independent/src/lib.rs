@@ -12,6 +12,7 @@ pub mod junk;
 pub mod kernel;
 pub mod lent;
 pub mod listing;
+pub mod page;
 pub mod random;
 pub mod scripts;
 pub mod sound;

@@ -1,34 +1,11 @@
 -- `wording::phrase::say_number` meets its contract.
 -- Assumes nothing.
-use mathlib.Core.Path.{sym, ap, _∙_}
-use native.Mathlib.Omega.{arith}
-use lib.Seq.{length-take-le}
 use borrow.Author.Needs.{needs}
-use Rattle.answers.proofs.AreaLaws.{written-within, written-whole}
-use Rattle.answers.proofs.TextLaws.{byte-short}
-use Rattle.wording.specs.Promises.{soFar, more}
 use Rattle.wording.proofs.phrase.say_number.Statement.{statement}
 use Rattle.wording.proofs.phrase.say_number.Tie as tie
 
-array-share-prefix-digits : tie.Need-array-share-prefix-digits
-array-share-prefix-digits c = omega (arith, written-within (c .before .put-decimal .ensures))
-
-slice-aggregate-say : tie.Need-slice-aggregate-say
-slice-aggregate-say c = sym (length-take-le _ _ (omega (arith, written-within (c .before .before .put-decimal .ensures))))
-
 returns : tie.Need-returns
-returns c =
-    let s = c .before .before .before .before .before in
-    let short = byte-short (s .args .n) (s .fits .n .fits) in
-    c .say .ensures ∙ ap (more (soFar (s .args .t))) (written-whole (c .before .before .before .put-decimal .ensures) (omega arith))
+returns c = c .say-decimal .ensures
 
 pub say-number-spec : {M : Type 1} → statement M
-say-number-spec =
-    tie.close
-    (tie.spec
-    (λ c. search needs)
-    (λ c κs. search needs)
-    array-share-prefix-digits
-    slice-aggregate-say
-    (λ c κs. search needs)
-    returns)
+say-number-spec = tie.close (tie.spec (λ c κs. search needs) returns)

@@ -1,0 +1,116 @@
+//! The page of docs/STATUS.md: where each process stands, in words, one line each.
+
+use crate::kernel::*;
+use crate::listing::*;
+
+/// The page of a state, every line with its newline.
+pub fn page(kernel: &Kernel) -> String {
+    let mut page = line("Process", "Stands", "Class", "Ticks left", "In hand");
+    let mut unused = 0;
+    for number in 0..PROCESSES {
+        let row = kernel.row(number);
+        match place_in_words(&row) {
+            None => unused += 1,
+            Some(place) => page += &line(&number.to_string(), &place, &row.class.to_string(), &row.ticks.to_string(), &hand_in_words(&row)),
+        }
+    }
+    page + &unused_in_words(unused) + "\n"
+}
+
+fn line(process: &str, stands: &str, class: &str, ticks: &str, hand: &str) -> String {
+    format!("{process:<9}{stands:<30}{class:<7}{ticks:<12}{hand}\n")
+}
+
+/// None for an unused process.
+fn place_in_words(row: &Row) -> Option<String> {
+    let order = match row.position {
+        0 => "first".to_string(),
+        ahead => format!("{ahead} ahead"),
+    };
+    match row.place {
+        RUNNING => Some("runs".to_string()),
+        READY => Some(format!("ready in class {}, {order}", row.which)),
+        AT_MAILBOX => Some(format!("at mailbox {}, {order}", row.which)),
+        AT_SEMAPHORE => Some(format!("at semaphore {}, {order}", row.which)),
+        STANDING_BY => Some("stands by".to_string()),
+        _ => None,
+    }
+}
+
+fn hand_in_words(row: &Row) -> String {
+    match (row.full, row.length) {
+        (0, _) => "nothing".to_string(),
+        (_, 1) => "a message of 1 byte".to_string(),
+        (_, length) => format!("a message of {length} bytes"),
+    }
+}
+
+fn unused_in_words(unused: usize) -> String {
+    match unused {
+        0 => "No process is unused.".to_string(),
+        1 => "1 process is unused.".to_string(),
+        _ => format!("{unused} processes are unused."),
+    }
+}
+
+#[cfg(test)]
+mod tests {
+    use super::*;
+
+    #[test]
+    fn fresh() {
+        let lines = [
+            "Process  Stands                        Class  Ticks left  In hand",
+            "0        runs                          0      0           nothing",
+            "31 processes are unused.",
+            "",
+        ];
+        assert_eq!(page(&Kernel::fresh()), lines.join("\n"));
+    }
+
+    #[test]
+    fn every_place_and_hand() {
+        let mut kernel = Kernel::fresh();
+        kernel.create(4);
+        kernel.receive(9); // 1 waits at mailbox 9
+        kernel.create(3);
+        kernel.send(2, b"!");
+        kernel.receive(2);
+        kernel.wait(15); // 2 waits at semaphore 15 with a byte in hand
+        kernel.create(4);
+        kernel.receive(9); // 3 waits behind 1
+        kernel.create(2); // 4 runs
+        kernel.create(1); // 5 and 6 are ready
+        kernel.create(1);
+        kernel.send(0, b"");
+        kernel.receive(0);
+        kernel.tick();
+        let lines = [
+            "Process  Stands                        Class  Ticks left  In hand",
+            "0        stands by                     0      0           nothing",
+            "1        at mailbox 9, first           4      3           nothing",
+            "2        at semaphore 15, first        3      3           a message of 1 byte",
+            "3        at mailbox 9, 1 ahead         4      3           nothing",
+            "4        runs                          2      2           a message of 0 bytes",
+            "5        ready in class 1, first       1      3           nothing",
+            "6        ready in class 1, 1 ahead     1      3           nothing",
+            "25 processes are unused.",
+            "",
+        ];
+        assert_eq!(page(&kernel), lines.join("\n"));
+    }
+
+    #[test]
+    fn last_line() {
+        let mut kernel = Kernel::fresh();
+        let last_after = |kernel: &mut Kernel| {
+            kernel.create(0);
+            page(kernel).lines().last().map(str::to_string)
+        };
+        let said: Vec<_> = (1..PROCESSES).map(|_| last_after(&mut kernel)).collect();
+        assert_eq!(said[0].as_deref(), Some("30 processes are unused."));
+        assert_eq!(said[28].as_deref(), Some("2 processes are unused."));
+        assert_eq!(said[29].as_deref(), Some("1 process is unused."));
+        assert_eq!(said[30].as_deref(), Some("No process is unused."));
+    }
+}
