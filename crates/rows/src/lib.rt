@@ -14,12 +14,18 @@ use sizes::Pid;
 
 pub mod spots;
 
-// The places of a row that are not in queues.
-const UNUSED: u8 = 0;
+// The places of a row.
+pub const UNUSED: u8 = 0;
 
-pub(crate) const RUNNING: u8 = 1;
+pub const RUNNING: u8 = 1;
 
-const STANDING_BY: u8 = 5;
+pub const READY: u8 = 2;
+
+pub const AT_MAILBOX: u8 = 3;
+
+pub const AT_SEMAPHORE: u8 = 4;
+
+pub const STANDING_BY: u8 = 5;
 
 #[repr(C)]
 pub struct Row {

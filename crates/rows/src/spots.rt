@@ -10,6 +10,9 @@ ghost use Rattle.plain.specs.Sizes.{queues};
 ghost use Rattle.queues.specs.Queue.{num};
 ghost use Rattle.procs.specs.Stands as Stands;
 ghost use Rattle.rows.specs.Places.{spot, coded, spotFrom, swept, everyone, spotIn, spotOf, Spots};
+use crate::AT_MAILBOX;
+use crate::AT_SEMAPHORE;
+use crate::READY;
 use crate::RUNNING;
 use procs::Procs;
 use procs::entry;
@@ -34,13 +37,6 @@ const SEMAPHORES: u8 = sizes::SEMAPHORES as u8;
 const AT_MAILBOXES: u8 = sizes::AT_MAILBOXES as u8;
 
 const AT_SEMAPHORES: u8 = sizes::AT_SEMAPHORES as u8;
-
-// The places in queues.
-pub const READY: u8 = 2;
-
-pub const AT_MAILBOX: u8 = 3;
-
-pub const AT_SEMAPHORE: u8 = 4;
 
 // The first three columns of a row.
 pub struct Spot {

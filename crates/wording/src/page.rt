@@ -13,6 +13,8 @@ use crate::phrase::say;
 use crate::phrase::say_number;
 use crate::row::row_line;
 use rows::Row;
+use rows::STANDING_BY;
+use rows::UNUSED;
 use sizes::PROCESSES;
 
 // The header, a line for each process and the last line.
@@ -42,10 +44,10 @@ fn unused_line(n: u8) -> Phrase
 fn is_used(row: Row) -> bool
     ensures { λ r. ⌜ r ≡ isUsed row ⌝ }
 {
-    if row.place == 0 {
+    if row.place == UNUSED {
         return false;
     }
-    row.place <= 5
+    row.place <= STANDING_BY
 }
 
 // What a row adds to the number of those unused.

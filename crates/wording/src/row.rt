@@ -14,6 +14,10 @@ use crate::phrase::say;
 use crate::phrase::say_decimal;
 use crate::phrase::say_number;
 use crate::phrase::used;
+use rows::AT_MAILBOX;
+use rows::AT_SEMAPHORE;
+use rows::READY;
+use rows::RUNNING;
 use rows::Row;
 
 fn say_order(t: Phrase, n: u8) -> Phrase
@@ -35,16 +39,16 @@ fn say_queued(t: Phrase, place: &[u8], x: u8, n: u8) -> Phrase
 fn say_stands(t: Phrase, row: Row) -> Phrase
     ensures { λ r. ⌜ soFar r ≡ more (soFar t) (stands row) ⌝ }
 {
-    if row.place == 1 {
+    if row.place == RUNNING {
         return say(t, b"runs");
     }
-    if row.place == 2 {
+    if row.place == READY {
         return say_queued(t, b"ready in class ", row.which, row.position);
     }
-    if row.place == 3 {
+    if row.place == AT_MAILBOX {
         return say_queued(t, b"at mailbox ", row.which, row.position);
     }
-    if row.place == 4 {
+    if row.place == AT_SEMAPHORE {
         return say_queued(t, b"at semaphore ", row.which, row.position);
     }
     say(t, b"stands by")
