@@ -2,7 +2,7 @@
 -- Assumes nothing.
 use Prim.Native.Nat.{ℕ, _+_, _-_, _≤_}
 use mathlib.Core.List.{List, [], _++_, append-assoc, append-nil}
-use mathlib.Core.Path.{_≡_, sym, ap, _∙_}
+use mathlib.Core.Path.{_≡_, sym, ap, subst, _∙_}
 use native.Mathlib.Omega.{arith}
 use lib.ListN.{length, take, drop, length-append, length-drop}
 use lib.Seq.{take-append-seam, length-take-le}
@@ -13,6 +13,13 @@ use Rattle.wording.specs.Promises.{Adds}
 
 pub adds-none : (o : List ℕ) (at : ℕ) → Adds 0 [] o o at at
 adds-none o at = record { short = omega arith; ends = omega arith; text = sym (append-nil (take at o)) }
+
+-- a text that is known otherwise
+pub adds-as : {span at next : ℕ} {l l′ old new : List ℕ} → l ≡ l′ → Adds span l old new at next → Adds span l′ old new at next
+adds-as {span} {at} {next} {l} {l′} {old} {new} e a = subst (λ (x : List ℕ). Adds span x old new at next) e a
+
+pub written-as : {n : ℕ} {l l′ old new : List ℕ} → l ≡ l′ → Written l old new n → Written l′ old new n
+written-as {n} {l} {l′} {old} {new} e w = subst (λ (x : List ℕ). Written x old new n) e w
 
 pub adds-more : {span more : ℕ} {a b old mid new : List ℕ} {at here next : ℕ} → Adds span a old mid at here → Adds more b mid new here next → Adds (span + more) (a ++ b) old new at next
 adds-more {a} {b} {old} {at} f g = record {

@@ -4,14 +4,17 @@ use mathlib.Core.Path.{sym}
 use native.Mathlib.Omega.{arith}
 use lib.Seq.{length-take-le}
 use borrow.Author.Needs.{needs}
+use Rattle.wording.proofs.AddsLaws.{written-as}
 use Rattle.wording.proofs.put_page.Statement.{statement}
 use Rattle.wording.proofs.put_page.Tie as tie
 
 slice-aggregate-put : tie.Need-slice-aggregate-put
-slice-aggregate-put c = sym (length-take-le _ _ (omega arith))
+slice-aggregate-put c = sym (length-take-le (c .before .before .before .lay-page .result) _ (omega arith))
 
 returns : tie.Need-returns
-returns c = (rw (c .before .before .before .before .before .before .lay-page .ensures .text) at (c .before .before .put .ensures), c .before .before .before .before .before .before .lay-page .ensures .short)
+returns c =
+    let laid = c .before .before .before .before .before .before .lay-page .ensures in
+    (written-as (laid .text) (c .before .before .put .ensures), laid .short)
 
 pub put-page-spec : {M : Type 1} → statement M
 put-page-spec =

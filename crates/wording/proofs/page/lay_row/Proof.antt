@@ -1,9 +1,11 @@
 -- `wording::page::lay_row` meets its contract.
 -- Assumes nothing.
-use mathlib.Core.Path.{sym, _∙_}
+use mathlib.Core.Path.{_≡_, sym, _∙_}
 use native.Mathlib.Omega.{arith}
 use borrow.Author.Needs.{needs}
-use Rattle.wording.proofs.AddsLaws.{adds-none}
+use Rattle.wording.specs.Page.{lineOf}
+use Rattle.wording.specs.Promises.{soFar}
+use Rattle.wording.proofs.AddsLaws.{adds-none, adds-as}
 use Rattle.wording.proofs.PageLaws.{line-used, line-unused}
 use Rattle.wording.proofs.page.lay_row.Statement.{statement}
 use Rattle.wording.proofs.page.lay_row.Tie as tie
@@ -11,7 +13,9 @@ use Rattle.wording.proofs.page.lay_row.Tie as tie
 returns : tie.Need-returns
 returns c =
     let s = c .before .before .before .before .before .before .before .before .args in
-    rw (line-used (s .process) (s .row) (sym (c .before .before .before .before .before .before .is-used .ensures) ∙ c .before .before .before .before .before .if1 .taken), ← c .before .before .before .row-line .ensures) (c .before .before .lay .ensures)
+    let used = sym (c .before .before .before .before .before .before .is-used .ensures) ∙ c .before .before .before .before .before .if1 .taken in
+    let line : soFar (c .before .before .before .row-line .result) ≡ lineOf (s .process) (s .row) = c .before .before .before .row-line .ensures ∙ sym (line-used (s .process) (s .row) used) in
+    adds-as line (c .before .before .lay .ensures)
 
 returns-2 : tie.Need-returns-2
 returns-2 c =
