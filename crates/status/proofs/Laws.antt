@@ -20,7 +20,7 @@ use Rattle.rows.specs.Row.{asRow, bare, Each}
 use Rattle.rows.specs.declared.Row.{Row}
 use Rattle.listing.specs.Sheets.{Sheets}
 use Rattle.listing.specs.declared.Sheet.{Sheet}
-use Rattle.telling.specs.Told.{notSound, Refused, refused}
+use Rattle.telling.specs.Promise.{notSound, Refused, refused}
 use Rattle.wording.specs.Page.{page, rowAt}
 use Rattle.wording.proofs.PageLaws.{page-same}
 use Rattle.status.specs.Promise.{Shown, unsound, known}

@@ -5,7 +5,7 @@ use mathlib.Core.Bool.{Bool}
 use mathlib.Core.List.{List}
 use mathlib.Core.Path.{refl, sym, _∙_}
 use Rattle.telling.specs.Theorems.{Same, One}
-use Rattle.telling.specs.Told.{OfInput}
+use Rattle.telling.specs.Promise.{OfInput}
 use Rattle.telling.proofs.Theorems.{one-of-input, one-told, text-fits}
 use Rattle.wording.specs.Page.{pageRoom}
 use Rattle.status.specs.Promise.{Shown, unsound, known}

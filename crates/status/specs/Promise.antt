@@ -9,7 +9,7 @@ use Rattle.plain.specs.Sound.{Sound}
 use Rattle.plain.specs.State.{State}
 use Rattle.board.specs.Area.{Lies, IsSound}
 use Rattle.rows.specs.Row.{asRow}
-use Rattle.telling.specs.Told.{notSound, OfInput, Gives}
+use Rattle.telling.specs.Promise.{notSound, OfInput, Gives}
 use Rattle.telling.specs.declared.Told.{Told}
 use Rattle.wording.specs.Page.{page, pageRoom}
 

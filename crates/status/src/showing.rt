@@ -1,5 +1,5 @@
 // What is told of the state in an area: its page, or one fault without a newline. Assumes nothing.
-ghost use Rattle.telling.specs.Told.{Gives};
+ghost use Rattle.telling.specs.Promise.{Gives};
 ghost use Rattle.wording.specs.Page.{pageRoom};
 ghost use Rattle.status.specs.Promise.{Shown, Answers};
 use telling::Told;

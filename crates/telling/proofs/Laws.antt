@@ -8,7 +8,7 @@ use mathlib.Core.Path.{_≡_}
 use native.Mathlib.Omega.{arith}
 use lib.ListN.{length}
 use borrow.Author.Tests.{eq-eqb, ne-eqb}
-use Rattle.telling.specs.Told.{noState, Refused, OfInput, Gives}
+use Rattle.telling.specs.Promise.{noState, Refused, OfInput, Gives}
 use Rattle.telling.specs.declared.Told.{Told}
 
 pub gives-as : {room room′ : ℕ} {Is Is′ : Bool → List ℕ → Type 0} {old new : List ℕ} {r : Told} → room ≤ room′ → ((good : Bool) (text : List ℕ) → Is good text → Is′ good text) → Gives room Is old new r → Gives room′ Is′ old new r

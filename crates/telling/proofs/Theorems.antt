@@ -11,7 +11,7 @@ use Rattle.lists.specs.Lists.{if_then_else_}
 use Rattle.answers.specs.Written.{Written}
 use Rattle.answers.proofs.AreaLaws.{written-whole}
 use Rattle.telling.specs.Theorems.{Same, One, OneTold, OneFault, TextFits}
-use Rattle.telling.specs.Told.{noState, Refused, refused, OfInput}
+use Rattle.telling.specs.Promise.{noState, Refused, refused, OfInput}
 
 pub one-fault : OneFault
 one-fault words _ _ _ _ refused refused = record { good = refl; text = refl }

@@ -5,7 +5,7 @@ use mathlib.Core.Bool.{Bool}
 use mathlib.Core.List.{List}
 use mathlib.Core.Path.{_≡_}
 use lib.ListN.{length, take}
-use Rattle.telling.specs.Told.{Refused, Gives}
+use Rattle.telling.specs.Promise.{Refused, Gives}
 use Rattle.telling.specs.declared.Told.{Told}
 
 -- the same text, and the same word on whether it is what was asked for

@@ -1,6 +1,6 @@
 // What the programs for people have in common: a text in a lent area, and whether it is what was asked for or a fault. Assumes nothing.
 ghost use lib.ListN.{length};
-ghost use Rattle.telling.specs.Told.{Refused, noState, notSound, Gives};
+ghost use Rattle.telling.specs.Promise.{Refused, noState, notSound, Gives};
 
 // Whether it is what was asked for, and how many bytes of the lent area the text takes.
 pub struct Told {

@@ -20,7 +20,7 @@ use Rattle.reasons.specs.declared.Explained as Code
 use Rattle.kernel.specs.Promise.{said}
 use Rattle.board.specs.Area.{Lies, IsSound}
 use Rattle.wording.specs.Words.{sentence}
-use Rattle.telling.specs.Told.{notSound, Refused, refused}
+use Rattle.telling.specs.Promise.{notSound, Refused, refused}
 use Rattle.why.specs.Promise.{noProcess, Explained, unsound, nobody, known}
 
 -- the plain kernel refuses it for who is no process, with 1, and for nobody else

@@ -14,7 +14,7 @@ use Rattle.script.specs.Grammar.{number}
 use Rattle.board.specs.Area.{Lies, IsSound}
 use Rattle.wording.specs.Promises.{room}
 use Rattle.wording.specs.Words.{sentence}
-use Rattle.telling.specs.Told.{notSound, Refused, OfInput, Gives}
+use Rattle.telling.specs.Promise.{notSound, Refused, OfInput, Gives}
 use Rattle.telling.specs.declared.Told.{Told}
 
 -- ---- the faults of its own

@@ -1,6 +1,6 @@
 // What is told about a process, as one text without its newline. Assumes nothing.
 ghost use Rattle.wording.specs.Promises.{room};
-ghost use Rattle.telling.specs.Told.{OfInput, Gives};
+ghost use Rattle.telling.specs.Promise.{OfInput, Gives};
 ghost use Rattle.why.specs.Promise.{Explained, Answers};
 use script::numbers::Number;
 use script::numbers::read_number;

@@ -2,7 +2,7 @@
 -- Assumes nothing.
 use native.Mathlib.Omega.{arith}
 use borrow.Author.Needs.{needs}
-use Rattle.telling.specs.Told.{refused}
+use Rattle.telling.specs.Promise.{refused}
 use Rattle.telling.proofs.refuse.Statement.{statement}
 use Rattle.telling.proofs.refuse.Tie as tie
 
