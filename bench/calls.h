@@ -11,7 +11,7 @@ static int is_sound(const struct kernel *k);
 /* Copies a field between the image and the struct; x86-64 has the lowest byte first, as the image. */
 #define EACH_FIELD(copy) \
     copy(running) copy(class_of) copy(ticks) copy(next) copy(before) copy(ready) copy(unused) copy(box_next) \
-    copy(box_before) copy(hand) copy(full) copy(length) copy(free) copy(count)
+    copy(box_before) copy(hand) copy(full) copy(length) copy(free) copy(count) copy(slice)
 #define FROM_IMAGE(field) memcpy(&k->field, state, sizeof k->field); state += sizeof k->field;
 #define TO_IMAGE(field) memcpy(state, &k->field, sizeof k->field); state += sizeof k->field;
 
@@ -30,8 +30,7 @@ static int open_image(struct kernel *k, const uint8_t *state, size_t length) {
 }
 
 static csengadrul_answer not_sound(void) {
-    csengadrul_answer a = {CSENGADRUL_NOT_SOUND, 0, 0};
-    return a;
+    return refusal(CSENGADRUL_NOT_SOUND);
 }
 
 /* A call that may change the state. */
@@ -43,12 +42,21 @@ static csengadrul_answer not_sound(void) {
     write_image(state, &k); \
     return a;
 
-csengadrul_answer csengadrul_fresh(uint8_t *state, size_t length) {
+static csengadrul_answer begin(uint8_t *state, size_t length, uint32_t slice) {
     struct kernel k;
+    csengadrul_answer a;
     if (length != CSENGADRUL_STATE_SIZE) return not_sound();
-    kernel_fresh(&k);
-    write_image(state, &k);
-    return answer(&k, CSENGADRUL_DONE, 0);
+    a = kernel_fresh(&k, slice);
+    if (a.code == CSENGADRUL_DONE) write_image(state, &k);
+    return a;
+}
+
+csengadrul_answer csengadrul_fresh(uint8_t *state, size_t length) {
+    return begin(state, length, CSENGADRUL_USUAL_SLICE);
+}
+
+csengadrul_answer csengadrul_fresh_slice(uint8_t *state, size_t length, uint32_t slice) {
+    return begin(state, length, slice);
 }
 
 csengadrul_answer csengadrul_create(uint8_t *state, size_t length, uint32_t class_number) {

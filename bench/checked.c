@@ -36,16 +36,16 @@ static int block_sound(const struct kernel *k, unsigned p, uint8_t place) {
     if (used == (int)(k->unused >> p & 1) && p != 0) return 0;
     if (!used) return k->class_of[p] == 0 && k->ticks[p] == 0;
     if (k->class_of[p] >= CSENGADRUL_CLASSES) return 0;
-    if (place == NOWHERE) return k->ticks[p] >= 1 && k->ticks[p] <= CSENGADRUL_SLICE;
+    if (place == NOWHERE) return k->ticks[p] >= 1 && k->ticks[p] <= k->slice;
     if (p == 0 || p == k->running) return 0;
-    if (place >= MAILBOX_HEAD) return k->ticks[p] == CSENGADRUL_SLICE;
-    return k->ticks[p] >= 1 && k->ticks[p] <= CSENGADRUL_SLICE && place == CLASS_HEAD + k->class_of[p];
+    if (place >= MAILBOX_HEAD) return k->ticks[p] == k->slice;
+    return k->ticks[p] >= 1 && k->ticks[p] <= k->slice && place == CLASS_HEAD + k->class_of[p];
 }
 
 static int processes_sound(const struct kernel *k, uint8_t place[32]) {
     unsigned p, c;
     uint32_t ready = 0;
-    if (k->running >= CSENGADRUL_PROCESSES || k->unused & 1) return 0;
+    if (k->slice == 0 || k->running >= CSENGADRUL_PROCESSES || k->unused & 1) return 0;
     if (!are_rings(k->next, k->before, PROCESS_NODES) || !find_places(k->next, PROCESS_NODES - 32, place)) return 0;
     for (p = 0; p < CSENGADRUL_PROCESSES; p++)
         if (!block_sound(k, p, place[p])) return 0;

@@ -48,16 +48,17 @@ static inline uint8_t is_vacant(uint8_t place, uint8_t runs, uint8_t class_numbe
 }
 
 /* Whether a process that runs or stands in a queue may have this class and these ticks. */
-static inline uint8_t block_fits(uint8_t place, uint8_t class_number, uint8_t ticks) {
-    if (class_number >= CSENGADRUL_CLASSES || ticks < 1 || ticks > CSENGADRUL_SLICE) return 0;
+static inline uint8_t block_fits(uint8_t place, uint8_t class_number, uint8_t ticks, uint8_t slice) {
+    if (class_number >= CSENGADRUL_CLASSES || ticks < 1 || ticks > slice) return 0;
     if (place == 0) return 1;
-    return place < AT_MAILBOXES ? place == class_number + 1 : ticks == CSENGADRUL_SLICE;
+    return place < AT_MAILBOXES ? place == class_number + 1 : ticks == slice;
 }
 
 /* Whether a process is in exactly one place, and its block is as that place asks. */
-static inline uint8_t seat_fits(uint8_t place, uint8_t runs, uint8_t class_number, uint8_t ticks, uint8_t unused) {
+static inline uint8_t seat_fits(uint8_t place, uint8_t runs, uint8_t class_number, uint8_t ticks, uint8_t unused,
+                                uint8_t slice) {
     if (unused) return is_vacant(place, runs, class_number, ticks);
-    return runs == (place == 0) && block_fits(place, class_number, ticks);
+    return runs == (place == 0) && block_fits(place, class_number, ticks, slice);
 }
 
 static inline int seats_fit(const struct kernel *k, const uint8_t at[MEMBERS]) {
@@ -65,7 +66,7 @@ static inline int seats_fit(const struct kernel *k, const uint8_t at[MEMBERS]) {
     unsigned p;
     if (k->unused & 1 || !is_vacant(at[0], 0, k->class_of[0], k->ticks[0])) return 0;
     for (p = 1; p < CSENGADRUL_PROCESSES; p++)
-        wrong |= !seat_fits(at[p], p == k->running, k->class_of[p], k->ticks[p], k->unused >> p & 1);
+        wrong |= !seat_fits(at[p], p == k->running, k->class_of[p], k->ticks[p], k->unused >> p & 1, k->slice);
     return !wrong;
 }
 
@@ -163,5 +164,5 @@ static inline int waits_fit(const struct kernel *k, const uint8_t at[MEMBERS]) {
 
 static int is_sound(const struct kernel *k) {
     uint8_t at[MEMBERS];
-    return processes_sound(k, at) && mail_sound(k) && waits_fit(k, at);
+    return k->slice != 0 && processes_sound(k, at) && mail_sound(k) && waits_fit(k, at);
 }

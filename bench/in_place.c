@@ -6,8 +6,12 @@
 
 csengadrul_answer csengadrul_fresh(uint8_t *state, size_t length) {
     (void)length;
-    kernel_fresh(K);
-    return answer(K, CSENGADRUL_DONE, 0);
+    return kernel_fresh(K, CSENGADRUL_USUAL_SLICE);
+}
+
+csengadrul_answer csengadrul_fresh_slice(uint8_t *state, size_t length, uint32_t slice) {
+    (void)length;
+    return kernel_fresh(K, slice);
 }
 
 csengadrul_answer csengadrul_create(uint8_t *state, size_t length, uint32_t class_number) {

@@ -30,6 +30,7 @@ struct kernel {
     uint16_t length[CSENGADRUL_BUFFERS];
     uint32_t free;
     uint16_t count[CSENGADRUL_SEMAPHORES];
+    uint8_t slice;
 };
 
 static csengadrul_answer answer(const struct kernel *k, uint32_t code, uint32_t number) {
@@ -37,6 +38,13 @@ static csengadrul_answer answer(const struct kernel *k, uint32_t code, uint32_t 
     a.code = code;
     a.number = number;
     a.running = k->running;
+    return a;
+}
+
+/* A refusal that tells nobody who runs. */
+static csengadrul_answer refusal(uint32_t code) {
+    csengadrul_answer a = {0, 0, 0};
+    a.code = code;
     return a;
 }
 
@@ -81,7 +89,7 @@ static void choose(struct kernel *k) {
 }
 
 static void join_class(struct kernel *k, uint8_t p) {
-    k->ticks[p] = CSENGADRUL_SLICE;
+    k->ticks[p] = k->slice;
     to_rear(k, (uint8_t)(CLASS_HEAD + k->class_of[p]), p);
     k->ready |= 1u << k->class_of[p];
 }
@@ -92,7 +100,7 @@ static void make_ready(struct kernel *k, uint8_t p) {
         join_class(k, p);
         return;
     }
-    k->ticks[p] = CSENGADRUL_SLICE;
+    k->ticks[p] = k->slice;
     if (ran) {
         to_front(k, (uint8_t)(CLASS_HEAD + k->class_of[ran]), ran);
         k->ready |= 1u << k->class_of[ran];
@@ -101,7 +109,7 @@ static void make_ready(struct kernel *k, uint8_t p) {
 }
 
 static void pause_at(struct kernel *k, uint8_t head) {
-    k->ticks[k->running] = CSENGADRUL_SLICE;
+    k->ticks[k->running] = k->slice;
     to_rear(k, head, k->running);
     choose(k);
 }
@@ -123,13 +131,16 @@ static void take_out(struct kernel *k, uint8_t p) {
     k->unused |= 1u << p;
 }
 
-static void kernel_fresh(struct kernel *k) {
+static csengadrul_answer kernel_fresh(struct kernel *k, uint32_t slice) {
     int i;
+    if (slice < 1 || slice > CSENGADRUL_LONGEST_SLICE) return refusal(CSENGADRUL_NO_SLICE);
     memset(k, 0, sizeof *k);
     for (i = 0; i < PROCESS_NODES; i++) k->next[i] = k->before[i] = (uint8_t)i;
     for (i = 0; i < BUFFER_NODES; i++) k->box_next[i] = k->box_before[i] = (uint8_t)i;
     k->unused = ~1u;
     k->free = ~0u;
+    k->slice = (uint8_t)slice;
+    return answer(k, CSENGADRUL_DONE, 0);
 }
 
 static csengadrul_answer kernel_create(struct kernel *k, uint32_t class_number) {

@@ -14,6 +14,7 @@
 #include <string.h>
 
 #define AREA 512 /* enough for an image, and for the struct of in_place.c */
+#define SLICE 3  /* ticks of a full slice, where calls are counted */
 #define S state, CSENGADRUL_STATE_SIZE
 #define STORE store, sizeof store
 
@@ -84,11 +85,17 @@ static void print_reason(unsigned long process) {
            (unsigned long)r.kind, (unsigned long)r.which, (unsigned long)r.ahead);
 }
 
+/* Mostly with the slice above; now and then with another, or with one that is refused, and then the state stays. */
+static csengadrul_answer start(void) {
+    return csengadrul_fresh_slice(S, below(8) ? SLICE : below(CSENGADRUL_LONGEST_SLICE + 40));
+}
+
 static void answers(unsigned long calls) {
     unsigned long i;
     uint32_t shown = 0, j;
+    csengadrul_fresh(S);
     for (i = 0; i < calls; i++) {
-        csengadrul_answer a = i % 500 ? random_call(&shown) : csengadrul_fresh(S);
+        csengadrul_answer a = i % 500 ? random_call(&shown) : start();
         printf("%lu %lu %lu", (unsigned long)a.code, (unsigned long)a.number, (unsigned long)a.running);
         for (j = 0; i % 500 && j < shown; j++) printf(" %02x", room[j]);
         print_reason(i);
@@ -99,7 +106,7 @@ static void answers(unsigned long calls) {
 static void damage(unsigned long images) {
     unsigned long i;
     uint32_t shown, changes;
-    csengadrul_fresh(S);
+    csengadrul_fresh_slice(S, SLICE);
     for (i = 0; i < images; i++) {
         random_call(&shown);
         memcpy(prepared.bytes, state, AREA);
@@ -117,7 +124,7 @@ static void damage(unsigned long images) {
  * counts 2. */
 static void prepare(void) {
     uint32_t i;
-    csengadrul_fresh(S);
+    csengadrul_fresh_slice(S, SLICE);
     for (i = 0; i < 12; i++) csengadrul_create(S, i % 3);
     csengadrul_wait(S, 5);
     csengadrul_receive(S, 4);
@@ -128,13 +135,13 @@ static void prepare(void) {
 }
 
 static void prepare_nobody(void) {
-    csengadrul_fresh(S);
+    csengadrul_fresh_slice(S, SLICE);
 }
 
 /* So many processes, each waiting: in one queue all of them, or each in a queue of its own, at the mailboxes first. */
 static void prepare_deep(uint32_t processes) {
     uint32_t i;
-    csengadrul_fresh(S);
+    csengadrul_fresh_slice(S, SLICE);
     for (i = 0; i < processes; i++) {
         csengadrul_create(S, 0);
         csengadrul_wait(S, 5);
@@ -143,7 +150,7 @@ static void prepare_deep(uint32_t processes) {
 
 static void prepare_spread(uint32_t processes) {
     uint32_t i;
-    csengadrul_fresh(S);
+    csengadrul_fresh_slice(S, SLICE);
     for (i = 0; i < processes; i++) {
         csengadrul_create(S, 0);
         if (i < CSENGADRUL_MAILBOXES) csengadrul_receive(S, i);
@@ -174,9 +181,9 @@ static void prepare_damaged(void) {
 }
 
 static void prepare_last_tick(void) {
+    uint32_t i;
     prepare();
-    csengadrul_tick(S);
-    csengadrul_tick(S);
+    for (i = 1; i < SLICE; i++) csengadrul_tick(S);
 }
 
 static void prepare_hand_16(void) {

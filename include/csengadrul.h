@@ -20,7 +20,7 @@
  * Every call answers, whatever the numbers are and whatever the areas hold.
  * A state area that is not CSENGADRUL_STATE_SIZE bytes long, or that holds no
  * image of a sound state, is refused with CSENGADRUL_NOT_SOUND, and so is a
- * damaged one at the next call; csengadrul_fresh alone looks at the length only.
+ * damaged one at the next call; the two fresh starts alone look at the length only.
  * A refusal, which is every code but CSENGADRUL_DONE and CSENGADRUL_WAITS, leaves
  * every byte of every area as it was. Where several refusals hold at once the
  * first one in the order that stands with the call is given.
@@ -45,12 +45,12 @@ extern "C" {
 /* The version, major and minor: the minor goes up where something is added, the
  * major where the image changes or an answer does, so that a state area kept from
  * another major version is not to be lent. */
-#define CSENGADRUL_VERSION_MAJOR 1
-#define CSENGADRUL_VERSION_MINOR 1
+#define CSENGADRUL_VERSION_MAJOR 2
+#define CSENGADRUL_VERSION_MINOR 0
 #define CSENGADRUL_VERSION (100 * CSENGADRUL_VERSION_MAJOR + CSENGADRUL_VERSION_MINOR)
 
 /* Sizes. */
-#define CSENGADRUL_STATE_SIZE 443    /* bytes of the state area */
+#define CSENGADRUL_STATE_SIZE 444    /* bytes of the state area */
 #define CSENGADRUL_STORE_SIZE 16384  /* bytes of the store */
 #define CSENGADRUL_MESSAGE_SIZE 512  /* bytes of the longest message */
 #define CSENGADRUL_PROCESSES 32      /* 0 to 31; 0 is the null process */
@@ -60,7 +60,8 @@ extern "C" {
 #define CSENGADRUL_BUFFERS 32        /* 0 to 31; buffer b begins at byte 512 b of the store */
 #define CSENGADRUL_SEMAPHORES 16     /* 0 to 15 */
 #define CSENGADRUL_COUNT_LIMIT 65535 /* the highest count of a semaphore */
-#define CSENGADRUL_SLICE 3           /* ticks of a full slice */
+#define CSENGADRUL_USUAL_SLICE 5     /* ticks of a full slice where none is named */
+#define CSENGADRUL_LONGEST_SLICE 255 /* ticks of the longest one; the shortest has 1 */
 
 /* Where the fields of docs/IMAGE.md begin in the state area, for whoever looks at one. */
 #define CSENGADRUL_OFFSET_RUNNING 0          /* the running process */
@@ -77,6 +78,7 @@ extern "C" {
 #define CSENGADRUL_OFFSET_LENGTH 343         /* length of the message in each buffer, two bytes */
 #define CSENGADRUL_OFFSET_FREE_BITS 407      /* free buffers */
 #define CSENGADRUL_OFFSET_COUNT 411          /* count of each semaphore, two bytes */
+#define CSENGADRUL_OFFSET_SLICE 443          /* ticks of a full slice */
 
 /* Codes of an answer. */
 enum {
@@ -96,12 +98,14 @@ enum {
     CSENGADRUL_COUNT_FULL = 13,    /* the semaphore counts 65,535 */
     CSENGADRUL_NOT_SOUND = 14,     /* the state area holds no sound state; number and running are 0 */
     CSENGADRUL_OTHER_STORE = 15,   /* the store is not 16,384 bytes long */
+    CSENGADRUL_NO_SLICE = 16,      /* the slice is 0 or over 255 */
     CSENGADRUL_WAITS = 32          /* done, and the caller waits now */
 };
 
 /* An answer. `number` is 0 where a call does not say what it is. `running` is the
  * process that runs after the call, which is also the byte at
- * CSENGADRUL_OFFSET_RUNNING; with CSENGADRUL_NOT_SOUND it is 0. */
+ * CSENGADRUL_OFFSET_RUNNING; with CSENGADRUL_NOT_SOUND it is 0, and so it is in
+ * every answer of a fresh start. */
 typedef struct {
     uint32_t code;
     uint32_t number;
@@ -109,10 +113,16 @@ typedef struct {
 } csengadrul_answer;
 
 /* Writes the fresh kernel: 0 runs, every other process is unused, all queues and
- * mailboxes are empty, all counts 0.
+ * mailboxes are empty, all counts 0, and a full slice has 5 ticks.
  * Answers 0 0 0. Refuses: 14 (the length only; what the area holds is not read).
  * State: the fresh image, whatever was there before. */
 csengadrul_answer csengadrul_fresh(uint8_t *state, size_t state_length);
+
+/* The same with a full slice of this many ticks, 1 to 255. No later call changes
+ * it; only another fresh start does.
+ * Answers 0 0 0. Refuses: 14 (the length only; what the area holds is not read), 16.
+ * State: the fresh image with this slice, whatever was there before. */
+csengadrul_answer csengadrul_fresh_slice(uint8_t *state, size_t state_length, uint32_t slice);
 
 /* The lowest unused number becomes a process of this class and is made ready.
  * Number: the new process. Refuses: 14, 2, 10.

@@ -19,6 +19,7 @@ const char *csengadrul_code_text(uint32_t code) {
     case CSENGADRUL_COUNT_FULL: return "the semaphore counts as far as it can";
     case CSENGADRUL_NOT_SOUND: return "the state area holds no sound state";
     case CSENGADRUL_OTHER_STORE: return "the store has another length";
+    case CSENGADRUL_NO_SLICE: return "the slice is 0 or over 255";
     case CSENGADRUL_WAITS: return "done, and the caller waits";
     default: return "no code of the kernel";
     }

@@ -23,6 +23,7 @@
 #define TURN_LIMIT 1000  /* turns of the main loop; the page takes far fewer */
 #define METER_TURNS 3    /* turns from one reading to the next */
 #define TIMER_TURNS 5    /* turns from one tick to the next */
+#define SLICE 3          /* ticks that a task runs before its equals have their turn */
 #define STOPPED_TURNS 40 /* turns that the printer stays stopped */
 #define LINE_SIZE 64     /* bytes of the longest line, with the zero behind it */
 #define CHANNELS 32
@@ -177,7 +178,7 @@ static void start_printer(void) {
 }
 
 static void power_on(void) {
-    expect("fresh", csengadrul_fresh(state, sizeof state), CSENGADRUL_DONE);
+    expect("fresh", csengadrul_fresh_slice(state, sizeof state, SLICE), CSENGADRUL_DONE);
     memset(preamp, 1, sizeof preamp); /* 48 V on everywhere, as the last show left it */
     start(preamp_step, PREAMP_CLASS);
     start(rider_step, SHARED_CLASS);

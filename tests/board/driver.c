@@ -2,8 +2,8 @@
  *
  * In, for each call, the numbers with their lowest byte first:
  *   1 byte   which call, as in lend.h
- *   4 bytes  its number: class, process, mailbox or semaphore
- *   2 bytes  length of the message, of the room, or rows of the table
+ *   4 bytes  its number: class, process, mailbox, semaphore or slice
+ *   2 bytes  length of the message, of the room, or rows of the table; of the state area, for a fresh start
  *            then the message's bytes, for a send
  * or the byte PUT and the bytes of a state area, which is then the one lent, or the byte FLUSH, which
  * hands on all that was written.
@@ -11,9 +11,9 @@
  * Out, for each call:
  *   12 bytes  code, number, running
  *   1 byte    0, or what went wrong: bits 0 to 4 for a guard byte beside an area that changed,
- *             bit 7 for a message that changed
+ *             bit 6 for a state area of another length that changed, bit 7 for a message that changed
  *   1 byte    REPLY, for whoever reads to know that both are in step
- *   443 bytes the state area
+ *   444 bytes the state area
  *   4 bytes   the first byte of the store that changed, and how many from there to the last one
  *             then these bytes
  *             then the whole room, for a read, the whole table, for a listing, or kind, which and ahead, for a why
@@ -32,7 +32,7 @@
 #define ROW_BYTE 0xee
 #define LONGEST 4096
 
-static uint8_t state[CSENGADRUL_STATE_SIZE];
+static uint8_t state[LONGEST]; /* the state area, and what is behind it where a fresh start is told more */
 static uint8_t store[CSENGADRUL_STORE_SIZE];
 static uint8_t store_before[CSENGADRUL_STORE_SIZE];
 static uint8_t message[LONGEST];
@@ -83,9 +83,11 @@ static void lay(area *a, enum lies lies, size_t told, size_t bytes, void *conten
 }
 
 static void make(enum call call, uint32_t number, size_t length, enum lies lies) {
+    size_t state_length = call == FRESH || call == FRESH_SLICE ? length : CSENGADRUL_STATE_SIZE;
+    unsigned wrong;
     area areas[KINDS];
     outcome o;
-    lay(&areas[STATE], lies, sizeof state, sizeof state, state);
+    lay(&areas[STATE], lies, state_length, state_length, state);
     lay(&areas[STORE], lies, sizeof store, sizeof store, store);
     lay(&areas[MESSAGE], lies, length, length, message);
     lay(&areas[ROOM], lies, length, length, room);
@@ -97,9 +99,11 @@ static void make(enum call call, uint32_t number, size_t length, enum lies lies)
     give_number(o.answer.code, 4);
     give_number(o.answer.number, 4);
     give_number(o.answer.running, 4);
-    give_number(o.escaped | (o.changed >> MESSAGE & 1) << 7, 1);
+    wrong = o.escaped | (o.changed >> MESSAGE & 1) << 7;
+    if (state_length != CSENGADRUL_STATE_SIZE) wrong |= (o.changed >> STATE & 1) << 6;
+    give_number(wrong, 1);
     give_number(REPLY, 1);
-    give(state, sizeof state);
+    give(state, CSENGADRUL_STATE_SIZE);
     give_store_change(o.changed >> STORE & 1);
     if (call == READ) give(room, length);
     if (call == LISTING) give(rows, length * sizeof *rows);
@@ -116,13 +120,13 @@ int main(void) {
     if (!lend_begin()) return 1;
     for (turn = 0; fread(&which, 1, 1, stdin) == 1; turn++) {
         if (which == PUT) {
-            take(state, sizeof state);
+            take(state, CSENGADRUL_STATE_SIZE);
         } else if (which == FLUSH) {
             if (fflush(stdout) != 0) return 1;
         } else {
             uint32_t number = take_number(4);
             size_t length = take_number(2);
-            if (which > WHY || length > LONGEST) return 1;
+            if (which > FRESH_SLICE || length > LONGEST) return 1;
             if (which == SEND) take(message, length);
             make((enum call)which, number, length, turn % 2 ? AT_THE_END : AT_THE_START);
         }

@@ -1,7 +1,7 @@
-/* The board's calls with answers that are known beforehand: the samples of document 01, every code,
- * every kind of reason, and areas of every kind of length. Everything is done twice, with the areas
- * against the end of their pages and against the start. What must stay as it is is compared byte for
- * byte. */
+/* The board's calls with answers that are known beforehand: the samples of document 01, fresh starts
+ * with every slice, every code, every kind of reason, and areas of every kind of length. Everything is
+ * done twice, with the areas against the end of their pages and against the start. What must stay as it
+ * is is compared byte for byte. */
 #include "lend.h"
 
 #include <stdio.h>
@@ -14,6 +14,7 @@
 #define STACK_LEAST (CSENGADRUL_STATE_SIZE + sizeof(void *))
 #define TABLE_ROWS (2 * CSENGADRUL_PROCESSES)
 #define ROW_BYTE 0xee
+#define SLICE 3 /* ticks of a full slice, as document 01 has it */
 
 static uint8_t state[CSENGADRUL_STATE_SIZE + 1];
 static uint8_t store[CSENGADRUL_STORE_SIZE + 1];
@@ -119,9 +120,13 @@ static outcome expect(const char *what, enum call call, uint32_t given, uint32_t
     return o;
 }
 
-static void fresh(void) {
+static void start(uint32_t slice) {
     usual();
-    expect("a fresh kernel", FRESH, 0, CSENGADRUL_DONE, 0, 0);
+    expect("a fresh kernel", FRESH_SLICE, slice, CSENGADRUL_DONE, 0, 0);
+}
+
+static void fresh(void) {
+    start(SLICE);
 }
 
 static void create(uint32_t class, uint32_t number, uint32_t running) {
@@ -241,7 +246,8 @@ static void refusals_in_order(void) {
     lay(STORE, side, 16383, 16383);
     expect("15 before 5", READ, 0, CSENGADRUL_OTHER_STORE, 0, 0);
     expect("15 before 3", SEND, 16, CSENGADRUL_OTHER_STORE, 0, 0);
-    lay(STATE, side, 442, 442);
+    lay(STATE, side, CSENGADRUL_STATE_SIZE - 1, CSENGADRUL_STATE_SIZE - 1);
+    expect("14 before 16", FRESH_SLICE, 0, CSENGADRUL_NOT_SOUND, 0, 0);
     expect("14 before 15", SEND, 16, CSENGADRUL_NOT_SOUND, 0, 0);
     expect("14 before 15", READ, 0, CSENGADRUL_NOT_SOUND, 0, 0);
     usual();
@@ -298,11 +304,12 @@ static void hand_full(void) {
 
 static void state_of(enum lies lies, size_t told, size_t bytes) {
     int call;
-    for (call = FRESH; call <= (int)WHY; call++) {
+    for (call = FRESH; call <= (int)FRESH_SLICE; call++) {
         hand_full();
         lay(STATE, lies, told, bytes);
         expect("a state of another length", call, 1, CSENGADRUL_NOT_SOUND, 0, 0);
     }
+    expect("a state of another length, and no such slice", FRESH_SLICE, 0, CSENGADRUL_NOT_SOUND, 0, 0);
 }
 
 /* A state or a store, which must have one length, is lent with every other one. */
@@ -413,17 +420,17 @@ static void listing(void) {
     table_of(side, TABLE_ROWS, TABLE_ROWS, CSENGADRUL_DONE);
     table_of(side, 33, 33, CSENGADRUL_DONE);
     count(row_is(0, CSENGADRUL_STANDING_BY, 0, 0, 0, 0, 0, 0), "the row of process 0");
-    count(row_is(1, CSENGADRUL_RUNNING, 1, 0, 1, 3, 1, 3), "the row of the running one");
-    count(row_is(2, CSENGADRUL_READY, 1, 0, 1, 3, 0, 0), "the row of the first that is ready");
-    count(row_is(3, CSENGADRUL_READY, 1, 1, 1, 3, 0, 0), "the row of the second that is ready");
+    count(row_is(1, CSENGADRUL_RUNNING, 1, 0, 1, SLICE, 1, 3), "the row of the running one");
+    count(row_is(2, CSENGADRUL_READY, 1, 0, 1, SLICE, 0, 0), "the row of the first that is ready");
+    count(row_is(3, CSENGADRUL_READY, 1, 1, 1, SLICE, 0, 0), "the row of the second that is ready");
     count(row_is(4, CSENGADRUL_UNUSED, 0, 0, 0, 0, 0, 0), "the row of an unused one");
     expect("wait", WAIT, 9, CSENGADRUL_WAITS, 0, 2);
     expect("receive", RECEIVE, 8, CSENGADRUL_WAITS, 0, 3);
     expect("end", END, 0, CSENGADRUL_DONE, 0, 0);
     expect("listing while 0 runs", LISTING, 0, CSENGADRUL_DONE, 0, 0);
     count(row_is(0, CSENGADRUL_RUNNING, 0, 0, 0, 0, 0, 0), "the row of process 0 while it runs");
-    count(row_is(1, CSENGADRUL_AT_SEMAPHORE, 9, 0, 1, 3, 1, 3), "the row of a waiter with a full hand");
-    count(row_is(2, CSENGADRUL_AT_MAILBOX, 8, 0, 1, 3, 0, 0), "the row of a waiter at a mailbox");
+    count(row_is(1, CSENGADRUL_AT_SEMAPHORE, 9, 0, 1, SLICE, 1, 3), "the row of a waiter with a full hand");
+    count(row_is(2, CSENGADRUL_AT_MAILBOX, 8, 0, 1, SLICE, 0, 0), "the row of a waiter at a mailbox");
     usual();
 }
 
@@ -518,7 +525,116 @@ static void refused_questions(void) {
     why(1, 1, CSENGADRUL_WHY_RUNNING, 0, 0);
 }
 
-/* In a fresh image the counts may be anything, and no other byte anything but what it is. */
+/* Each of two processes of one class runs for a slice. */
+static void take_turns(uint32_t slice) {
+    uint32_t t;
+    create(2, 1, 1);
+    create(2, 2, 1);
+    for (t = 1; t <= 2 * slice; t++) tick(t >= slice && t < 2 * slice ? 2 : 1);
+}
+
+static void slices_at_work(void) {
+    static const uint32_t slices[] = {1, 2, SLICE, 4, 5, 6, 127, 128, 254, 255};
+    size_t i;
+    usual();
+    expect("a fresh kernel where no slice is named", FRESH, 0, CSENGADRUL_DONE, 0, 0);
+    take_turns(5);
+    for (i = 0; i < sizeof slices / sizeof *slices; i++) {
+        start(slices[i]);
+        take_turns(slices[i]);
+    }
+    start(5);
+    create(2, 1, 1);
+    create(2, 2, 1);
+    tick(1);
+    create(4, 3, 3);
+    expect("end", END, 0, CSENGADRUL_DONE, 0, 1);
+    tick(1);
+    tick(1);
+    tick(1);
+    tick(2);
+    start(255);
+    create(1, 1, 1);
+    create(0, 2, 1);
+    expect("wait", WAIT, 9, CSENGADRUL_WAITS, 0, 2);
+    expect("listing", LISTING, 0, CSENGADRUL_DONE, 0, 2);
+    count(row_is(1, CSENGADRUL_AT_SEMAPHORE, 9, 0, 1, 255, 0, 0), "a waiter has a full slice");
+    count(row_is(2, CSENGADRUL_RUNNING, 0, 0, 0, 255, 0, 0), "and so has who begins to run");
+}
+
+/* Whatever the area holds, a fresh start writes the same image but for the slice. */
+static void fresh_images(void) {
+    uint8_t image[CSENGADRUL_STATE_SIZE];
+    uint32_t slice;
+    usual();
+    memset(state, 0xa5, sizeof state);
+    expect("fresh over anything", FRESH, 0, CSENGADRUL_DONE, 0, 0);
+    memcpy(image, state, sizeof image);
+    count(image[CSENGADRUL_OFFSET_SLICE] == 5, "the slice is 5 where none is named");
+    for (slice = 1; slice <= 255; slice++) {
+        memset(state, (int)slice, sizeof state);
+        expect("fresh over anything, with a slice", FRESH_SLICE, slice, CSENGADRUL_DONE, 0, 0);
+        count(memcmp(state, image, CSENGADRUL_OFFSET_SLICE) == 0, "every other byte is the same");
+        count(state[CSENGADRUL_OFFSET_SLICE] == slice, "the slice is the one named");
+    }
+}
+
+static void refused_slices(void) {
+    static const uint32_t refused[] = {0,      256,   257,   259,         511,         65535,
+                                       65536, 65537, 65539, 0x80000000u, 0x80000003u, 0xffffffffu};
+    size_t i;
+    for (i = 0; i < sizeof refused / sizeof *refused; i++) {
+        hand_full();
+        expect("16 while 1 runs", FRESH_SLICE, refused[i], CSENGADRUL_NO_SLICE, 0, 0);
+        tick(1);
+        tick(1);
+        state[CSENGADRUL_OFFSET_RUNNING] = 2;
+        expect("16 of a damaged state", FRESH_SLICE, refused[i], CSENGADRUL_NO_SLICE, 0, 0);
+        memset(state, 0xff, sizeof state);
+        expect("16 of any bytes", FRESH_SLICE, refused[i], CSENGADRUL_NO_SLICE, 0, 0);
+        expect("they are no state", TICK, 0, CSENGADRUL_NOT_SOUND, 0, 0);
+        lay(STATE, side, CSENGADRUL_STATE_SIZE + 1, CSENGADRUL_STATE_SIZE + 1);
+        expect("14 before 16", FRESH_SLICE, refused[i], CSENGADRUL_NOT_SOUND, 0, 0);
+        lay(STATE, NULL_POINTER, 0, 0);
+        expect("14 before 16, of no area", FRESH_SLICE, refused[i], CSENGADRUL_NOT_SOUND, 0, 0);
+    }
+    fresh();
+}
+
+/* A call that only looks at the state, with another slice in it, which is put back. */
+static void with_slice(uint8_t slice, uint32_t code, uint32_t running) {
+    uint8_t was = state[CSENGADRUL_OFFSET_SLICE];
+    state[CSENGADRUL_OFFSET_SLICE] = slice;
+    expect("another slice in the state", LISTING, 0, code, 0, running);
+    state[CSENGADRUL_OFFSET_SLICE] = was;
+}
+
+/* Nobody has more ticks left than the slice, and who waits has all of them. */
+static void damaged_slices(void) {
+    fresh();
+    with_slice(0, CSENGADRUL_NOT_SOUND, 0);
+    with_slice(1, CSENGADRUL_DONE, 0);
+    with_slice(255, CSENGADRUL_DONE, 0);
+    create(1, 1, 1);
+    with_slice(0, CSENGADRUL_NOT_SOUND, 0);
+    with_slice(SLICE - 1, CSENGADRUL_NOT_SOUND, 0);
+    with_slice(SLICE, CSENGADRUL_DONE, 1);
+    with_slice(SLICE + 1, CSENGADRUL_DONE, 1);
+    with_slice(255, CSENGADRUL_DONE, 1);
+    tick(1);
+    with_slice(SLICE - 1, CSENGADRUL_DONE, 1);
+    with_slice(SLICE - 2, CSENGADRUL_NOT_SOUND, 0);
+    create(0, 2, 1);
+    with_slice(SLICE - 1, CSENGADRUL_NOT_SOUND, 0);
+    expect("wait", WAIT, 9, CSENGADRUL_WAITS, 0, 2);
+    with_slice(0, CSENGADRUL_NOT_SOUND, 0);
+    with_slice(SLICE - 1, CSENGADRUL_NOT_SOUND, 0);
+    with_slice(SLICE, CSENGADRUL_DONE, 2);
+    with_slice(SLICE + 1, CSENGADRUL_NOT_SOUND, 0);
+    with_slice(255, CSENGADRUL_NOT_SOUND, 0);
+}
+
+/* In a fresh image the counts may be anything, the slice anything but 0, and no other byte anything but what it is. */
 static void damaged_fresh_image(void) {
     static const uint8_t flips[] = {1, 0x80, 0xff};
     size_t i, j;
@@ -527,7 +643,7 @@ static void damaged_fresh_image(void) {
         for (j = 0; j < sizeof flips; j++) {
             state[i] ^= flips[j];
             if (i < CSENGADRUL_OFFSET_COUNT) expect("a damaged byte", TICK, 0, CSENGADRUL_NOT_SOUND, 0, 0);
-            else expect("another count", TICK, 0, CSENGADRUL_DONE, 0, 0);
+            else expect("another count or slice", TICK, 0, CSENGADRUL_DONE, 0, 0);
             state[i] ^= flips[j];
         }
 }
@@ -538,6 +654,9 @@ static void damaged_for_each_call(void) {
         hand_full();
         state[0] = 2;
         expect("a state in which an unused process runs", call, 1, CSENGADRUL_NOT_SOUND, 0, 0);
+        state[0] = 1;
+        state[CSENGADRUL_OFFSET_SLICE] = SLICE - 1;
+        expect("a state in which one has more ticks than a slice", call, 1, CSENGADRUL_NOT_SOUND, 0, 0);
         memset(state, 0, sizeof state);
         expect("a state of zeros", call, 1, CSENGADRUL_NOT_SOUND, 0, 0);
         memset(state, 0xff, sizeof state);
@@ -564,6 +683,10 @@ static void all(void) {
     reasons_of_the_ready();
     reasons_in_a_crowd();
     refused_questions();
+    slices_at_work();
+    fresh_images();
+    refused_slices();
+    damaged_slices();
     damaged_fresh_image();
     damaged_for_each_call();
     full_tables();
@@ -587,7 +710,7 @@ int main(void) {
     all();
     side = AT_THE_START;
     all();
-    count(codes_seen == 0x10000fffful, "every code from 0 to 15 and 32 was given");
+    count(codes_seen == 0x10001fffful, "every code from 0 to 16 and 32 was given");
     stack();
     printf("%u passed, %u failed\n", passed, failed);
     return failed != 0;

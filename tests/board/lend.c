@@ -79,6 +79,7 @@ __attribute__((noinline)) static csengadrul_answer make(enum call call, uint32_t
     case WAIT: return csengadrul_wait(state, length, number);
     case LISTING: return csengadrul_listing(state, length, (csengadrul_row *)(void *)at[ROWS], areas[ROWS].told);
     case WHY: return ask(state, length, number, reason);
+    case FRESH_SLICE: return csengadrul_fresh_slice(state, length, number);
     default: return none;
     }
 }

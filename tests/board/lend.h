@@ -23,7 +23,8 @@ enum call {
     SIGNAL,
     WAIT,
     LISTING,
-    WHY
+    WHY,
+    FRESH_SLICE
 };
 
 enum kind { STATE, STORE, MESSAGE, ROOM, ROWS, KINDS };

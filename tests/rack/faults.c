@@ -33,9 +33,9 @@ int faulty_put_send(ring *r, uint32_t mailbox, const uint8_t *message, size_t me
 
 static uint8_t *state_area;
 
-csengadrul_answer faulty_fresh(uint8_t *state, size_t state_length) {
+csengadrul_answer faulty_fresh_slice(uint8_t *state, size_t state_length, uint32_t slice) {
     state_area = state;
-    return csengadrul_fresh(state, state_length);
+    return csengadrul_fresh_slice(state, state_length, slice);
 }
 
 /* A handler writes where it should not, and the state is still sound. */

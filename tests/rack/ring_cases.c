@@ -5,6 +5,8 @@
 #include <stdio.h>
 #include <string.h>
 
+#define SLICE 3 /* ticks of a full slice */
+
 enum { BOX = 3, COUNTED = 5 }; /* a mailbox, a semaphore */
 
 static uint8_t state[CSENGADRUL_STATE_SIZE];
@@ -34,7 +36,7 @@ static int put_digit(int digit) {
 static void begin(uint32_t count) {
     memset(&r, 0, sizeof r);
     r.put = r.taken = count;
-    csengadrul_fresh(state, sizeof state);
+    csengadrul_fresh_slice(state, sizeof state, SLICE);
     csengadrul_create(state, sizeof state, 1);
 }
 
@@ -53,7 +55,7 @@ static void in_order(void) {
     expect("putting makes no call", state[CSENGADRUL_OFFSET_COUNT + 2 * COUNTED] == 0);
     expect("the calls are done", drain() == CSENGADRUL_DONE && r.taken == 4);
     expect("the signal arrived", state[CSENGADRUL_OFFSET_COUNT + 2 * COUNTED] == 1);
-    expect("the tick arrived", state[CSENGADRUL_OFFSET_TICKS + 1] == CSENGADRUL_SLICE - 1);
+    expect("the tick arrived", state[CSENGADRUL_OFFSET_TICKS + 1] == SLICE - 1);
     expect("the sends arrived in order", next_is("1", 1) && next_is("2", 1));
 }
 

@@ -14,6 +14,7 @@
 #define TURN_LIMIT 20000000ul
 #define LAST_TURNS (4 * RING_SIZE) /* more than what is in the ring at the end can take */
 #define NUMBER_SIZE 4              /* bytes at the start of a message */
+#define SLICE 3                    /* ticks of a full slice */
 
 enum { STORM, OWN };                  /* mailboxes */
 enum { COUNTED };                     /* a semaphore at which nobody waits */
@@ -134,7 +135,7 @@ int main(void) {
     const uint8_t *count = state + CSENGADRUL_OFFSET_COUNT + 2 * COUNTED;
     unsigned long turn;
     uint32_t storm;
-    csengadrul_fresh(state, sizeof state);
+    csengadrul_fresh_slice(state, sizeof state, SLICE);
     storm = csengadrul_create(state, sizeof state, STORM_CLASS).number;
     csengadrul_create(state, sizeof state, BUSY_CLASS);
     expect("there is a handler", signal(SIGALRM, handler) != SIG_ERR);

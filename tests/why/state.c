@@ -1,5 +1,5 @@
-/* Makes the calls of the script on standard input, and writes the state area that they lead to.
- * Answers are not looked at. A line that is no call, or a script too long for this, ends it with status 1. */
+/* Makes the calls of the script on standard input, and writes the state area that they lead to. The first line may name
+ * a slice. Answers are not looked at. A line that is no call, or a script too long for this, ends it with status 1. */
 #include "csengadrul.h"
 
 #include <stdio.h>
@@ -8,6 +8,7 @@
 
 #define SCRIPT_SIZE 65536
 #define SENT_SIZE 600 /* bytes that a line of a script sends at most */
+#define SLICE_WORD "slice "
 #define S state, sizeof state
 #define STORE store, sizeof store
 
@@ -85,21 +86,33 @@ static const char *next_word(char **at) {
     return word;
 }
 
+/* Ends the line that begins here; gives where the next one begins. */
+static char *end_line(char *line) {
+    while (*line && *line != '\n') line++;
+    if (*line) *line++ = 0;
+    return line;
+}
+
 /* Makes the call of the line that begins here; gives where the next line begins, or NULL if it is no call. */
 static char *make_line(char *line) {
-    char *end = line, *at = line;
-    const char *word, *number;
-    while (*end && *end != '\n') end++;
-    if (*end) *end++ = 0;
-    word = next_word(&at);
-    number = next_word(&at);
+    char *end = end_line(line), *at = line;
+    const char *word = next_word(&at), *number = next_word(&at);
     return make(word, (uint32_t)atoi(number), next_word(&at)) ? end : NULL;
+}
+
+/* Makes the fresh start; gives where the calls begin. Where the slice that is named is refused, the usual one holds. */
+static char *start(char *line) {
+    csengadrul_fresh(S);
+    if (memcmp(line, SLICE_WORD, strlen(SLICE_WORD)) != 0) return line;
+    csengadrul_fresh_slice(S, (uint32_t)atoi(line + strlen(SLICE_WORD)));
+    return end_line(line);
 }
 
 int main(void) {
     size_t length = fread(script, 1, sizeof script, stdin);
-    char *at = script;
-    if (length == sizeof script || csengadrul_fresh(S).code != CSENGADRUL_DONE) return 1;
+    char *at;
+    if (length == sizeof script) return 1;
+    at = start(script);
     while (at != NULL && *at) at = make_line(at);
     return at == NULL || fwrite(state, 1, sizeof state, stdout) != sizeof state || fflush(stdout) != 0;
 }

@@ -17,7 +17,7 @@ use Rattle.kernel.proofs.One.{seats}
 use Rattle.kernel.specs.Holds as Struct
 use Rattle.kernel.specs.declared.Kernel.{Kernel}
 use Rattle.image.specs.Bytes.{byte, le, each}
-use Rattle.image.specs.Image.{image, mail, pid, nodes, classAt, ticksAt, nextAt, Sized}
+use Rattle.image.specs.Image.{image, mail, settings, pid, nodes, classAt, ticksAt, nextAt, Sized}
 use Rattle.board.specs.Area.{Lies, seating}
 
 bytes-are : (l : List ℕ) → each byte l ≡ l
@@ -48,10 +48,10 @@ module _ (x : ℕ) (a b n rest : List ℕ) (la : length a ≡ processes) (lb : l
   laid-out : seating area ≡ seated x a b n
   laid-out = rw (classes-there, ticks-there, next-there)
 
-regroup : (h n p r u m c : List ℕ) → h ++ (n ++ p) ++ r ++ u ++ m ++ c ≡ h ++ (n ++ (p ++ r ++ u ++ m ++ c))
-regroup [] [] p r u m c = refl
-regroup [] (x ∷ n) p r u m c = ap (λ (l : List ℕ). x ∷ l) (regroup [] n p r u m c)
-regroup (x ∷ h) n p r u m c = ap (λ (l : List ℕ). x ∷ l) (regroup h n p r u m c)
+regroup : (h n p r u m c x : List ℕ) → h ++ (n ++ p) ++ r ++ u ++ m ++ c ++ x ≡ h ++ (n ++ (p ++ r ++ u ++ m ++ c ++ x))
+regroup [] [] p r u m c x = refl
+regroup [] (y ∷ n) p r u m c x = ap (λ (l : List ℕ). y ∷ l) (regroup [] n p r u m c x)
+regroup (y ∷ h) n p r u m c x = ap (λ (l : List ℕ). y ∷ l) (regroup h n p r u m c x)
 
 image-seats : (k : Kernel) → Sized k → seating (image k) ≡ Struct.seating k
 unfolding image numbers tablesOf
@@ -62,9 +62,10 @@ image-seats k z =
     let u : List ℕ = le 4 (p .unused .0) in
     let m : List ℕ = mail (k .mail) in
     let c : List ℕ = each (le 2) (k .count) in
+    let x : List ℕ = settings (k .settings) in
     rw (bytes-are (p .class), bytes-are (p .ticks), links-are (p .queues .next))
-    (ap seating (regroup (p .running .0 ∷ (p .class ++ p .ticks)) (map num (p .queues .next)) prev r u m c)
-    ∙ laid-out (p .running .0) (p .class) (p .ticks) (map num (p .queues .next)) (prev ++ r ++ u ++ m ++ c) (z .class .long) (z .ticks .long) (length-map (p .queues .next) num ∙ z .next .long))
+    (ap seating (regroup (p .running .0 ∷ (p .class ++ p .ticks)) (map num (p .queues .next)) prev r u m c x)
+    ∙ laid-out (p .running .0) (p .class) (p .ticks) (map num (p .queues .next)) (prev ++ r ++ u ++ m ++ c ++ x) (z .class .long) (z .ticks .long) (length-map (p .queues .next) num ∙ z .next .long))
 
 pub area-seats : Seats Lies seating
 area-seats area s l = ap seating (sym (l .bytes)) ∙ (image-seats (l .kernel) (l .sized) ∙ seats (l .kernel) s (l .holds))

@@ -1,6 +1,8 @@
 // The calls as the board's firmware makes them: numbers and lent areas of bytes in, an answer out.
 // Each reads the image that lies in the state area, makes the kernel's call and writes the next image back.
 ghost use Rattle.plain.specs.Calls as Plain;
+ghost use Rattle.plain.specs.Start.{sliceOf};
+ghost use Rattle.plain.specs.State.{usual};
 ghost use Rattle.reasons.specs.Reasons.{Explains};
 ghost use Rattle.board.specs.Area.{Lies, Plainly, Sends, Reads, Begins, HandedBack};
 ghost use Rattle.board.specs.Reasons.{Reasons};
@@ -10,7 +12,9 @@ use kernel::Kernel;
 use reasons::Explained;
 
 // The bytes of a state area.
-pub const SIZE: usize = 443;
+pub const SIZE: usize = 444;
+
+const USUAL_SLICE: u32 = sizes::USUAL_SLICE as u32;
 
 // Why a process waits, in numbers beside the answer; where the question is refused they are zeros.
 #[repr(C)]
@@ -33,10 +37,9 @@ fn hand_back(state: &mut [u8], done: Done) -> Answer
     answer
 }
 
-// The area becomes the image of a fresh kernel; one of another length stays as it is.
-#[no_mangle]
-pub extern "C" fn csengadrul_fresh(state: &mut [u8]) -> Answer
-    ensures { λ r. ⌜ Begins (now (state .entry)) (now (state .exit)) r ⌝ }
+// The area becomes the image of a fresh kernel, whatever it held; where that is refused it stays as it is.
+fn begin(state: &mut [u8], slice: u32) -> Answer
+    ensures { λ r. ⌜ Begins (sliceOf slice) (now (state .entry)) (now (state .exit)) r ⌝ }
 {
     if state.len() != SIZE {
         return Answer {
@@ -45,12 +48,26 @@ pub extern "C" fn csengadrul_fresh(state: &mut [u8]) -> Answer
             running: 0,
         };
     }
-    image::write(state, Kernel::fresh());
-    Answer {
-        code: 0,
-        number: 0,
-        running: 0,
+    let done = Kernel::fresh_start(slice);
+    let told = done.answer;
+    if told.code != 0 {
+        return told;
     }
+    hand_back(state, done)
+}
+
+#[no_mangle]
+pub extern "C" fn csengadrul_fresh(state: &mut [u8]) -> Answer
+    ensures { λ r. ⌜ Begins usual (now (state .entry)) (now (state .exit)) r ⌝ }
+{
+    begin(state, USUAL_SLICE)
+}
+
+#[no_mangle]
+pub extern "C" fn csengadrul_fresh_slice(state: &mut [u8], slice: u32) -> Answer
+    ensures { λ r. ⌜ Begins (sliceOf slice) (now (state .entry)) (now (state .exit)) r ⌝ }
+{
+    begin(state, slice)
 }
 
 #[no_mangle]

@@ -1,25 +1,40 @@
--- The sample of "The replay desk", with request 1's questions between its calls, computed.
+-- The sample of "The replay desk", with request 1's questions between its calls, and request 3's first lines, computed.
 -- Assumes nothing.
+use Prim.Native.Nat.{ℕ}
 use Prim.Native.String.{String}
 use mathlib.Core.Path.{_≡_, refl}
 use mathlib.Core.List.{List, [], _∷_, map}
 use Rattle.lists.specs.Lists.{total, lowest}
 use Rattle.plain.specs.Calls.{perform, refusals, step}
 use Rattle.plain.specs.Runs.{choose, chooseBelow, join, standDown, makeReady, goTo, remove, halt}
-use Rattle.plain.specs.Sizes.{capacity, bufferSize, longest, highestCount, slice}
+use Rattle.plain.specs.Sizes.{capacity, bufferSize, longest, highestCount}
 use Rattle.plain.specs.Listing.{queueOf}
-use Rattle.plain.specs.State.{fresh, spots, held, freeProcess, freeBuffer}
+use Rattle.plain.specs.Start.{longestSlice, freshStart}
+use Rattle.plain.specs.State.{spots, held, freeProcess, freeBuffer}
 use Rattle.plain.specs.Why.{reasonIn, reason, why}
 use Rattle.answers.specs.Answer.{digitsOf, decimal}
 use Rattle.answers.specs.Ascii.{ascii}
 use Rattle.script.specs.Grammar.{order}
 use Rattle.wording.specs.Words.{words, reasonLine}
-use Rattle.desk.specs.Reply.{replies}
+use Rattle.desk.specs.Reply.{atFirst, replies}
 
 -- a line, and what is written for it
-abbrev sample : List (String × String)
+abbrev Lines : Type 0
+Lines = List (String × String)
+
+-- what is written for these lines, from the first on
+unfoldable pub shown : Lines → List (List ℕ)
+unfolding step refusals perform freshStart choose chooseBelow join standDown makeReady goTo remove halt spots total lowest held freeProcess freeBuffer capacity bufferSize longest highestCount longestSlice queueOf reasonIn reason why order digitsOf decimal words reasonLine
+shown l = replies atFirst (map (λ (x : String × String). ascii (x .0)) l)
+
+abbrev meant : Lines → List (List ℕ)
+meant l = map (λ (x : String × String). ascii (x .1)) l
+
+-- It was tuned to a slice of 3, which its first line names.
+abbrev sample : Lines
 sample =
-    ("create 2", "0 1 1")
+    ("slice 3", "0 0 0")
+    ∷ ("create 2", "0 1 1")
     ∷ ("create 2", "0 2 1")
     ∷ ("why 1", "0 0 1 running")
     ∷ ("why 2", "0 0 1 ready 1")
@@ -47,6 +62,46 @@ sample =
     ∷ ("why 0", "0 0 0 running")
     ∷ []
 
-pub sample-written : replies fresh (map (λ (x : String × String). ascii (x .0)) sample) ≡ map (λ (x : String × String). ascii (x .1)) sample
-unfolding step refusals perform choose chooseBelow join standDown makeReady goTo remove halt spots total lowest held freeProcess freeBuffer capacity bufferSize longest highestCount slice queueOf reasonIn reason why order digitsOf decimal words reasonLine
+pub sample-written : shown sample ≡ meant sample
+unfolding shown
 sample-written = refl
+
+-- ---- request 3: which slice holds is seen by the tick at which the second process runs
+
+abbrev each : Lines
+each = ("create 2", "0 1 1") ∷ ("create 2", "0 2 1") ∷ ("tick", "0 0 2") ∷ ("tick", "0 0 1") ∷ []
+
+abbrev third : Lines
+third = ("create 2", "0 1 1") ∷ ("create 2", "0 2 1") ∷ ("tick", "0 0 1") ∷ ("tick", "0 0 1") ∷ ("tick", "0 0 2") ∷ []
+
+abbrev fifth : Lines
+fifth = ("create 2", "0 1 1") ∷ ("create 2", "0 2 1") ∷ ("tick", "0 0 1") ∷ ("tick", "0 0 1") ∷ ("tick", "0 0 1") ∷ ("tick", "0 0 1") ∷ ("tick", "0 0 2") ∷ []
+
+-- scripts, each from the first line on
+abbrev slices : List Lines
+slices =
+    -- one is named; none is, where 5 holds
+    (("slice 1", "0 0 0") ∷ each)
+    ∷ (("slice 3", "0 0 0") ∷ third)
+    ∷ (("slice 5", "0 0 0") ∷ fifth)
+    ∷ (("slice 255", "0 0 0") ∷ [])
+    ∷ fifth
+    -- refused, and 5 holds
+    ∷ (("slice 0", "16 0 0") ∷ fifth)
+    ∷ (("slice 256", "16 0 0") ∷ fifth)
+    ∷ (("slice 65535", "16 0 0") ∷ fifth)
+    -- no numbers of the desk, and 5 holds
+    ∷ (("slice 03", "bad") ∷ fifth)
+    ∷ (("slice 65536", "bad") ∷ fifth)
+    -- whatever the first line was, a later one is too late
+    ∷ (("slice 3", "0 0 0") ∷ ("slice 4", "bad") ∷ third)
+    ∷ (("slice 0", "16 0 0") ∷ ("slice 3", "bad") ∷ fifth)
+    ∷ (("slice 03", "bad") ∷ ("slice 3", "bad") ∷ fifth)
+    ∷ (("", "bad") ∷ ("slice 3", "bad") ∷ fifth)
+    ∷ (("why 0", "0 0 0 running") ∷ ("slice 3", "bad") ∷ fifth)
+    ∷ (("tick", "0 0 0") ∷ ("slice 3", "bad") ∷ fifth)
+    ∷ []
+
+pub slices-named : map shown slices ≡ map meant slices
+unfolding shown
+slices-named = refl

@@ -8,9 +8,9 @@ use lib.ListN.{length, take, replicate, length-replicate}
 use Rattle.script.specs.Grammar.{order}
 use Rattle.answers.specs.Written.{laid}
 use Rattle.answers.proofs.AreaLaws.{written-all}
-use Rattle.kernel.specs.declared.Kernel.{Kernel}
 use Rattle.desk.specs.Line.{Answered, Line}
 use Rattle.desk.specs.Theorems.{Session, longestText}
+use Rattle.desk.specs.declared.Desk.{Desk}
 use Rattle.desk.specs.declared.Turn.{Turn}
 use Rattle.desk.proofs.Texts.{answered-short}
 use Rattle.desk.proofs.Theorems.{every-text-fits}
@@ -23,16 +23,16 @@ page-long : longestText ≤ length page
 unfolding page
 page-long = rw length-replicate (omega arith)
 
-abbrev turned : Kernel → List ℕ → Turn
-turned k text = record { state = k; length = length text }
+abbrev turned : Desk → List ℕ → Turn
+turned d text = record { desk = d; length = length text }
 
-module _ {store store′ text : List ℕ} {k k′ : Kernel} (l : List ℕ) (a : Answered store k (order l) k′ store′ text) where
-  on-page : Line store l page k store′ (laid text page) (turned k′ text)
+module _ {store store′ text : List ℕ} {d d′ : Desk} (l : List ℕ) (a : Answered store d (order l) d′ store′ text) where
+  on-page : Line store l page d store′ (laid text page) (turned d′ text)
   on-page = record { text = text; answered = a; written = written-all text page (laid text page) (length text) (omega (arith, page-long, answered-short a)) refl refl }
 
   read-back : take (length text) (laid text page) ≡ text
   unfolding on-page
-  read-back = every-text-fits store l page store′ (laid text page) k (turned k′ text) on-page .whole page-long
+  read-back = every-text-fits store l page store′ (laid text page) d (turned d′ text) on-page .whole page-long
 
-  pub one-more : {k″ : Kernel} {store″ : List ℕ} {lines texts : List (List ℕ)} → Session k′ store′ lines texts k″ store″ → Session k store (l ∷ lines) (text ∷ texts) k″ store″
-  one-more later = rw read-back at (Session.turn (turned k′ text) on-page page-long later)
+  pub one-more : {d″ : Desk} {store″ : List ℕ} {lines texts : List (List ℕ)} → Session d′ store′ lines texts d″ store″ → Session d store (l ∷ lines) (text ∷ texts) d″ store″
+  one-more later = rw read-back at (Session.turn (turned d′ text) on-page page-long later)

@@ -11,11 +11,11 @@ use lib.ListN.{length, take, length-append}
 use lib.Seq.{paste, take-paste, take-all}
 use borrow.Author.Tests.{lt-ltb}
 use Rattle.lists.specs.Lists.{if_then_else_}
-use Rattle.answers.specs.Answer.{bad}
 use Rattle.script.specs.Grammar.{longestLine, order}
 use Rattle.answers.specs.Written.{Written}
-use Rattle.kernel.specs.declared.Kernel.{Kernel}
-use Rattle.desk.specs.Line.{Answered, Line}
+use Rattle.desk.specs.Line.{Turned, Line}
+use Rattle.desk.specs.declared.Desk.{Desk}
+use Rattle.desk.specs.declared.Turn.{Turn}
 use Rattle.feed.specs.Buffer.{overLong, HoldsLine, whole, long}
 
 pub empty : (line : List ℕ) → HoldsLine [] line 0
@@ -60,6 +60,6 @@ pub over-is-none : (l : List ℕ) → longestLine < length l → order l ≡ non
 unfolding order
 over-is-none l o = rw (lt-ltb longestLine (length l) o)
 
-pub over-is-bad : {store l b old new : List ℕ} {k : Kernel} {n count : ℕ} → longestLine < n → HoldsLine l b n → Written bad old new count → Line store l old k store new (record { state = k; length = count })
-over-is-bad over (whole s counted content) w = absurd (omega arith)
-over-is-bad {l = l} over (long o far) w = record { text = bad; answered = rw (over-is-none l far) Answered.bad; written = w }
+pub over-is-bad : {store l b old new : List ℕ} {d : Desk} {r : Turn} {n : ℕ} → longestLine < n → HoldsLine l b n → Turned none store old d store new r → Line store l old d store new r
+over-is-bad over (whole s counted content) t = absurd (omega arith)
+over-is-bad {l = l} over (long o far) t = rw (over-is-none l far) t

@@ -29,8 +29,8 @@ laid-more a b area =
     rw (take-append-seam a (drop (length a) area), drop-append-seam a (drop (length a) area), drop-drop (length b) (length a) area, length-append a b) (sym (append-assoc a b (drop (length a + length b) area)))
 
 -- the text was put into the part from what t has written on
-pub behind : {l store store′ out new : List ℕ} {t told : Turn} (m : ℕ) → m ≡ length out - t .length → t .length + longestText < length out → Line store l (midOf (t .length) m out) (t .state) store′ new told
-    → AnsweredBehind l store out t store′ (set (putMid (t .length) m out new) (t .length + told .length) newline) (record { state = told .state; length = t .length + told .length + 1 })
+pub behind : {l store store′ out new : List ℕ} {t told : Turn} (m : ℕ) → m ≡ length out - t .length → t .length + longestText < length out → Line store l (midOf (t .length) m out) (t .desk) store′ new told
+    → AnsweredBehind l store out t store′ (set (putMid (t .length) m out new) (t .length + told .length) newline) (record { desk = told .desk; length = t .length + told .length + 1 })
 behind {out = out} {new} {t} {told} m size room line =
     let at : ℕ = t .length in
     let area : List ℕ = drop at out in

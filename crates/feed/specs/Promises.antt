@@ -21,10 +21,10 @@ pub record FirstNewline (s : List ℕ) (from n : ℕ) : Type 0 where
 -- the line l is answered, and the text and its newline are laid behind what t has written
 pub record AnsweredBehind (l store out : List ℕ) (t : Turn) (store′ out′ : List ℕ) (r : Turn) : Type 0 where
   pub text : List ℕ
-  pub answered : Answered store (t .state) (order l) (r .state) store′ text
+  pub answered : Answered store (t .desk) (order l) (r .desk) store′ text
   pub counted : r .length ≡ t .length + (length text + 1)
   pub area : out′ ≡ take (t .length) out ++ laid (text ++ (newline ∷ [])) (drop (t .length) out)
 
 -- what goes on after t, with so many bytes held and used
 abbrev pub fedSoFar : Turn → ℕ → ℕ → Fed
-fedSoFar t held used = record { next = record { state = t .state; held = held }; used = used; wrote = t .length }
+fedSoFar t held used = record { next = record { desk = t .desk; held = held }; used = used; wrote = t .length }

@@ -5,14 +5,13 @@ use mathlib.Core.List.{List, [], _∷_, _++_}
 use mathlib.Core.Path.{_≡_}
 use lib.ListN.{length, take}
 use Rattle.plain.specs.Sizes.{storeSize}
-use Rattle.plain.specs.State.{State, fresh}
 use Rattle.promise.specs.Promise.{Stored}
-use Rattle.kernel.specs.Holds.{Holds}
-use Rattle.kernel.specs.declared.Kernel.{Kernel}
 use Rattle.script.specs.Grammar.{longestLine}
 use Rattle.answers.specs.Answer.{bad}
-use Rattle.desk.specs.Reply.{replies, standing}
+use Rattle.desk.specs.Line.{HoldsDesk}
+use Rattle.desk.specs.Reply.{Stand, atFirst, later, replies, standing}
 use Rattle.desk.specs.Theorems.{longestText, Same}
+use Rattle.desk.specs.declared.Desk.{Desk}
 use Rattle.desk.specs.declared.Turn.{Turn}
 use Rattle.feed.specs.Cut.{newline, linesOf, withNewlines, NoNewline}
 use Rattle.feed.specs.Buffer.{HoldsLine}
@@ -28,7 +27,7 @@ pub record SomeLine (line : List ℕ) (n : ℕ) : Type 0 where
 abbrev pub EveryBuffer : Type 0
 EveryBuffer = (line : List ℕ) (n : ℕ) → length line ≡ longestLine → SomeLine line n
 
--- 2. No second answer: for the same state, areas and chunk, what meets a promise is equal, but for the bytes of the line buffer behind those that it holds.
+-- 2. No second answer: for the same desk, areas and chunk, what meets a promise is equal, but for the bytes of the line buffer behind those that it holds.
 abbrev pub OneFresh : Type 0
 OneFresh = (o₁ o₂ : Ongoing) → FromFresh o₁ → FromFresh o₂ → o₁ ≡ o₂
 
@@ -55,29 +54,29 @@ pub data Chunks : Ongoing → List ℕ → List ℕ → List ℕ → List ℕ �
       → Chunks (r .next) store′ line′ bytes written o″ store″ line″ → Chunks o store line (take (r .used) chunk ++ bytes) (take (r .wrote) out′ ++ written) o″ store″ line″
 
 -- the same and then the end of the input, in an area with room for the longest text
-pub data Input : Ongoing → List ℕ → List ℕ → List ℕ → List ℕ → Kernel → List ℕ → Type 0 where
+pub data Input : Ongoing → List ℕ → List ℕ → List ℕ → List ℕ → Desk → List ℕ → Type 0 where
   at-end : {o o′ : Ongoing} {store line store′ line′ store″ bytes written : List ℕ} (out out′ : List ℕ) (r : Turn) → Chunks o store line bytes written o′ store′ line′ → longestText < length out
-      → Finishes store′ line′ out o′ store″ out′ r → Input o store line bytes (written ++ take (r .length) out′) (r .state) store″
+      → Finishes store′ line′ out o′ store″ out′ r → Input o store line bytes (written ++ take (r .length) out′) (r .desk) store″
 
--- From a fresh start, all that is written is what the plain kernel's desk writes for the lines of all the bytes, and the kernel and the store are at its state.
-pub record Whole (bytes written : List ℕ) (k : Kernel) (store : List ℕ) : Type 0 where
-  pub answers : written ≡ withNewlines (replies fresh (linesOf bytes))
-  pub state : Holds k (standing fresh (linesOf bytes))
-  pub messages : Stored store (standing fresh (linesOf bytes))
+-- From a fresh start, all that is written is what the plain kernel's desk writes for the lines of all the bytes, and the desk and the store are where it stands then.
+pub record Whole (bytes written : List ℕ) (d : Desk) (store : List ℕ) : Type 0 where
+  pub answers : written ≡ withNewlines (replies atFirst (linesOf bytes))
+  pub desk : HoldsDesk d (standing atFirst (linesOf bytes))
+  pub messages : Stored store (standing atFirst (linesOf bytes) .state)
 
 abbrev pub WholeInput : Type 0
-WholeInput = (o : Ongoing) (store line bytes written store′ : List ℕ) (k′ : Kernel) → FromFresh o → length store ≡ storeSize → Input o store line bytes written k′ store′ → Whole bytes written k′ store′
+WholeInput = (o : Ongoing) (store line bytes written store′ : List ℕ) (d′ : Desk) → FromFresh o → length store ≡ storeSize → Input o store line bytes written d′ store′ → Whole bytes written d′ store′
 
 -- From any start, the same bytes in other chunks, with other areas and other scratch in the line buffer, lead to the same.
-pub record SameEnd (written₁ written₂ : List ℕ) (k₁ k₂ : Kernel) (store₁ store₂ : List ℕ) : Type 0 where
+pub record SameEnd (written₁ written₂ : List ℕ) (d₁ d₂ : Desk) (store₁ store₂ : List ℕ) : Type 0 where
   pub written : written₁ ≡ written₂
-  pub state : k₁ ≡ k₂
+  pub desk : d₁ ≡ d₂
   pub store : store₁ ≡ store₂
 
 abbrev pub AnyChunks : Type 0
-AnyChunks = (o : Ongoing) (p store line₁ line₂ bytes written₁ written₂ store₁ store₂ : List ℕ) (k₁ k₂ : Kernel) → HoldsLine p line₁ (o .held) → HoldsLine p line₂ (o .held)
-    → Input o store line₁ bytes written₁ k₁ store₁ → Input o store line₂ bytes written₂ k₂ store₂ → SameEnd written₁ written₂ k₁ k₂ store₁ store₂
+AnyChunks = (o : Ongoing) (p store line₁ line₂ bytes written₁ written₂ store₁ store₂ : List ℕ) (d₁ d₂ : Desk) → HoldsLine p line₁ (o .held) → HoldsLine p line₂ (o .held)
+    → Input o store line₁ bytes written₁ d₁ store₁ → Input o store line₂ bytes written₂ d₂ store₂ → SameEnd written₁ written₂ d₁ d₂ store₁ store₂
 
--- 4. "one over 1,300 bytes gives `bad` and changes nothing": it is one line, and what follows it is read as if it were not there.
+-- 4. "one over 1,300 bytes gives `bad` and changes nothing": it is one line, and what follows it is read as if it were not there, but that no later line is the first.
 abbrev pub OneBad : Type 0
-OneBad = (s : State) (l c : List ℕ) → NoNewline l → longestLine < length l → replies s (linesOf (l ++ (newline ∷ c))) ≡ bad ∷ replies s (linesOf c)
+OneBad = (t : Stand) (l c : List ℕ) → NoNewline l → longestLine < length l → replies t (linesOf (l ++ (newline ∷ c))) ≡ bad ∷ replies (later (t .state)) (linesOf c)

@@ -10,9 +10,9 @@ ghost use Rattle.desk.specs.Theorems.{longestText};
 ghost use Rattle.feed.specs.Buffer.{overLong, HoldsLine};
 ghost use Rattle.feed.specs.Takes.{FromFresh, Feeds, GoesOn, Finishes};
 ghost use Rattle.feed.specs.Promises.{FirstNewline, AnsweredBehind, fedSoFar};
+use desk::Desk;
 use desk::LONGEST_TEXT;
 use desk::Turn;
-use kernel::Kernel;
 use script::LONGEST_LINE;
 
 const NEWLINE: u8 = b'\n';
@@ -20,9 +20,9 @@ const NEWLINE: u8 = b'\n';
 // Stands for the length of a line that is over the longest.
 const OVER_LONG: usize = LONGEST_LINE + 1;
 
-// What goes on from chunk to chunk beside the lent areas: the kernel, and how many bytes the line buffer holds of a line that has not ended. Any number over the longest line says that this one is too long.
+// What goes on from chunk to chunk beside the lent areas: the desk, and how many bytes the line buffer holds of a line that has not ended. Any number over the longest line says that this one is too long.
 pub struct Ongoing {
-    pub state: Kernel,
+    pub desk: Desk,
     pub held: usize,
 }
 
@@ -31,8 +31,8 @@ impl Ongoing {
     pub fn fresh() -> Ongoing
         ensures { λ r. ⌜ FromFresh r ⌝ }
     {
-        let state = Kernel::fresh();
-        Ongoing { state, held: 0 }
+        let desk = Desk::fresh();
+        Ongoing { desk, held: 0 }
     }
 }
 
@@ -87,16 +87,15 @@ fn append(line: &mut [u8], held: usize, piece: &[u8]) -> usize
 }
 
 // The text of the answer to the line that the buffer holds, at the start of room.
-fn text(k: Kernel, held: usize, store: &mut [u8], line: &[u8], room: &mut [u8]) -> Turn
+fn text(d: Desk, held: usize, store: &mut [u8], line: &[u8], room: &mut [u8]) -> Turn
     requires { ⌜ length (now line) ≡ longestLine ⌝ }
     ensures { λ r. ⌜ r .length ≤ longestText ⌝ }
-    ensures { λ r. ⌜ ((l : List ℕ) → HoldsLine l (now (line .entry)) held → Line (now (store .entry)) l (now (room .entry)) k (now (store .exit)) (now (room .exit)) r) ⌝ }
+    ensures { λ r. ⌜ ((l : List ℕ) → HoldsLine l (now (line .entry)) held → Line (now (store .entry)) l (now (room .entry)) d (now (store .exit)) (now (room .exit)) r) ⌝ }
 {
     if LONGEST_LINE < held {
-        let length = answers::put_bad(room);
-        return Turn { state: k, length };
+        return desk::bad(d, room);
     }
-    desk::line(k, store, &line[..held], room)
+    desk::line(d, store, &line[..held], room)
 }
 
 // The line buffer holds a whole line: its answer and a newline go behind what is written.
@@ -105,14 +104,14 @@ fn answer(t: Turn, held: usize, store: &mut [u8], line: &[u8], out: &mut [u8]) -
     ensures { λ r. ⌜ r .length ≤ length (now (out .entry)) ⌝ }
     ensures { λ r. ⌜ ((l : List ℕ) → HoldsLine l (now (line .entry)) held → AnsweredBehind l (now (store .entry)) (now (out .entry)) t (now (store .exit)) (now (out .exit)) r) ⌝ }
 {
-    let k = t.state;
+    let d = t.desk;
     let at = t.length;
-    let told = text(k, held, store, line, &mut out[at..]);
-    let state = told.state;
+    let told = text(d, held, store, line, &mut out[at..]);
+    let desk = told.desk;
     let end = at + told.length;
     out[end] = NEWLINE;
     Turn {
-        state,
+        desk,
         length: end + 1,
     }
 }
@@ -121,9 +120,9 @@ fn answer(t: Turn, held: usize, store: &mut [u8], line: &[u8], out: &mut [u8]) -
 fn so_far(t: Turn, held: usize, used: usize) -> Fed
     ensures { λ r. ⌜ r ≡ fedSoFar t held used ⌝ }
 {
-    let state = t.state;
+    let desk = t.desk;
     Fed {
-        next: Ongoing { state, held },
+        next: Ongoing { desk, held },
         used,
         wrote: t.length,
     }
@@ -140,8 +139,8 @@ pub fn feed(
     ensures { λ r. ⌜ Feeds (now (store .entry)) (now (line .entry)) (now (chunk .entry)) (now (out .entry)) o (now (store .exit)) (now (line .exit)) (now (out .exit)) r ⌝ }
     ensures { λ r. ⌜ GoesOn (now (chunk .entry)) (now (out .entry)) r ⌝ }
 {
-    let state = o.state;
-    let mut t = Turn { state, length: 0 };
+    let desk = o.desk;
+    let mut t = Turn { desk, length: 0 };
     let mut held = capped(o.held);
     let mut used = 0;
     while used < chunk.len() {
@@ -164,8 +163,8 @@ pub fn feed(
 pub fn finish(o: Ongoing, store: &mut [u8], line: &[u8; LONGEST_LINE], out: &mut [u8]) -> Turn
     ensures { λ r. ⌜ Finishes (now (store .entry)) (now (line .entry)) (now (out .entry)) o (now (store .exit)) (now (out .exit)) r ⌝ }
 {
-    let state = o.state;
-    let t = Turn { state, length: 0 };
+    let desk = o.desk;
+    let t = Turn { desk, length: 0 };
     if o.held == 0 {
         return t;
     }

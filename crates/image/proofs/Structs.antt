@@ -8,8 +8,9 @@ use Rattle.boxes.specs.declared.Boxes.{Boxes}
 use Rattle.procs.specs.declared.Procs.{Procs}
 use Rattle.mail.specs.declared.Mail.{Mail}
 use Rattle.kernel.specs.declared.Kernel.{Kernel}
+use Rattle.kernel.specs.declared.Settings.{Settings}
 use Rattle.plain.specs.Sizes.{processes, buffers, semaphores}
-use Rattle.image.specs.Image.{nodes, boxNodes, queuesLong, procsLong, boxesLong, mailLong, size, pid, bid, queues, procs, boxes, mail, image, U8, U16, U32, Array, Sized}
+use Rattle.image.specs.Image.{nodes, boxNodes, queuesLong, procsLong, boxesLong, mailLong, settingsLong, size, pid, bid, queues, procs, boxes, mail, settings, image, U8, U16, U32, Array, Sized}
 use Rattle.image.proofs.Codes.{Code, both, through, array, byte-code, le-code}
 
 abbrev FitsPid : Pid → Type 0
@@ -30,8 +31,11 @@ FitsBoxes b = Array boxNodes FitsBid (b .next) × Array boxNodes FitsBid (b .pre
 abbrev FitsMail : Mail → Type 0
 FitsMail m = (((FitsBoxes (m .boxes) × Array processes FitsBid (m .hand)) × U32 (m .full .0)) × Array buffers U16 (m .length)) × U32 (m .free .0)
 
+abbrev FitsSettings : Settings → Type 0
+FitsSettings x = U8 (x .slice)
+
 abbrev FitsKernel : Kernel → Type 0
-FitsKernel k = (FitsProcs (k .procs) × FitsMail (k .mail)) × Array semaphores U16 (k .count)
+FitsKernel k = ((FitsProcs (k .procs) × FitsMail (k .mail)) × Array semaphores U16 (k .count)) × FitsSettings (k .settings)
 
 pid-code : Code pid 1 FitsPid
 pid-code = through (λ (p : Pid). p .0) (λ n. record { 0 = n }) (λ n. refl) (λ p. refl) byte-code
@@ -57,18 +61,21 @@ mail-code =
     (λ t. record { boxes = t .0 .0 .0 .0; hand = t .0 .0 .0 .1; full = record { 0 = t .0 .0 .1 }; length = t .0 .1; free = record { 0 = t .1 } }) (λ t. refl) (λ m. refl)
     (both (both (both (both boxes-code (array bid-code processes)) (le-code 4)) (array (le-code 2) buffers)) (le-code 4))
 
+settings-code : Code settings settingsLong FitsSettings
+settings-code = through (λ (x : Settings). x .slice) (λ n. record { slice = n }) (λ n. refl) (λ x. refl) byte-code
+
 kernel-code : Code image size FitsKernel
 unfolding image
 kernel-code =
-    through (λ (k : Kernel). ((k .procs, k .mail), k .count))
-    (λ t. record { procs = t .0 .0; mail = t .0 .1; count = t .1 }) (λ t. refl) (λ k. refl)
-    (both (both procs-code mail-code) (array (le-code 2) semaphores))
+    through (λ (k : Kernel). (((k .procs, k .mail), k .count), k .settings))
+    (λ t. record { procs = t .0 .0 .0; mail = t .0 .0 .1; count = t .0 .1; settings = t .1 }) (λ t. refl) (λ k. refl)
+    (both (both (both procs-code mail-code) (array (le-code 2) semaphores)) settings-code)
 
 fits : (k : Kernel) → Sized k → FitsKernel k
 fits k s =
     let procs : FitsProcs (k .procs) = (((((s .running, s .class), s .ticks), (s .next, s .prev)), s .ready), s .unused) in
     let mail : FitsMail (k .mail) = (((((s .box-next, s .box-prev), s .hand), s .full), s .lengths), s .free) in
-    ((procs, mail), s .count)
+    (((procs, mail), s .count), s .slice)
 
 pub image-code : Code image size Sized
 image-code = record {
@@ -80,8 +87,8 @@ image-code = record {
   where
     sized-of : (k : Kernel) → FitsKernel k → Sized k
     sized-of k f =
-        let procs = f .0 .0 in
-        let mail = f .0 .1 in
+        let procs = f .0 .0 .0 in
+        let mail = f .0 .0 .1 in
         record {
           running = procs .0 .0 .0 .0 .0;
           class = procs .0 .0 .0 .0 .1;
@@ -96,5 +103,6 @@ image-code = record {
           full = mail .0 .0 .1;
           lengths = mail .0 .1;
           free = mail .1;
-          count = f .1;
+          count = f .0 .1;
+          slice = f .1;
         }

@@ -13,6 +13,7 @@ use Rattle.boxes.specs.declared.Boxes.{Boxes}
 use Rattle.procs.specs.declared.Procs.{Procs}
 use Rattle.mail.specs.declared.Mail.{Mail}
 use Rattle.kernel.specs.declared.Kernel.{Kernel}
+use Rattle.kernel.specs.declared.Settings.{Settings}
 use Rattle.image.specs.Bytes.{byte, le, each}
 
 -- how many bytes each part takes, a byte for a link, four for a word of bits, two for a length or a count
@@ -44,9 +45,16 @@ boxesLong = boxNodes + boxNodes
 abbrev pub mailLong : ℕ
 mailLong = boxesLong + processes + 4 + 2 * buffers + 4
 
--- 443
+-- the settings stand behind the counts: the slice
+abbrev pub settingsAt : ℕ
+settingsAt = procsLong + mailLong + 2 * semaphores
+
+abbrev pub settingsLong : ℕ
+settingsLong = 1
+
+-- 444
 abbrev pub size : ℕ
-size = procsLong + mailLong + 2 * semaphores
+size = settingsAt + settingsLong
 
 abbrev pub pid : Pid → List ℕ
 pid p = byte (p .0)
@@ -66,8 +74,11 @@ boxes b = each bid (b .next) ++ each bid (b .prev)
 abbrev pub mail : Mail → List ℕ
 mail m = boxes (m .boxes) ++ each bid (m .hand) ++ le 4 (m .full .0) ++ each (le 2) (m .length) ++ le 4 (m .free .0)
 
+abbrev pub settings : Settings → List ℕ
+settings x = byte (x .slice)
+
 unfoldable pub image : Kernel → List ℕ
-image k = procs (k .procs) ++ mail (k .mail) ++ each (le 2) (k .count)
+image k = procs (k .procs) ++ mail (k .mail) ++ each (le 2) (k .count) ++ settings (k .settings)
 
 -- a struct's arrays have their lengths, and its numbers fit: so it is with every value of the struct type
 abbrev pub U8 : ℕ → Type 0
@@ -98,6 +109,7 @@ pub record Sized (k : Kernel) : Type 0 where
   pub lengths : Array buffers U16 (k .mail .length)
   pub free : U32 (k .mail .free .0)
   pub count : Array semaphores U16 (k .count)
+  pub slice : U8 (k .settings .slice)
 
 -- every field is zero
 abbrev pub blank : Kernel
@@ -118,6 +130,7 @@ blank = record {
     free = record { 0 = 0 };
   };
   count = replicate semaphores 0;
+  settings = record { slice = 0 };
 }
 
 -- what is read of an area: the kernel whose image it is, or zeros where it has another length

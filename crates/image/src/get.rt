@@ -6,11 +6,12 @@ ghost use Prim.Native.Nat.{_*_};
 ghost use lib.ListN.{length};
 ghost use Rattle.image.specs.Bytes.{byte, le, each, Got};
 ghost use Rattle.plain.specs.Sizes.{processes};
-ghost use Rattle.image.specs.Image.{nodes, boxNodes, procsLong, mailLong, pid, bid, procs, mail};
+ghost use Rattle.image.specs.Image.{nodes, boxNodes, procsLong, mailLong, settingsAt, settingsLong, pid, bid, procs, mail, settings};
 use crate::layout;
 use crate::layout::BOX_NODES;
 use crate::layout::NODES;
 use boxes::Boxes;
+use kernel::Settings;
 use mail::Mail;
 use procs::Procs;
 use queues::Queues;
@@ -163,4 +164,11 @@ pub(crate) fn mail(area: &[u8]) -> Mail
         length,
         free,
     }
+}
+
+pub(crate) fn settings(area: &[u8]) -> Settings
+    ensures { λ r. ⌜ Got settingsAt settingsLong (settings r) (now (area .entry)) ⌝ }
+{
+    let slice = byte(area, layout::SETTINGS);
+    Settings { slice }
 }

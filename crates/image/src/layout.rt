@@ -41,7 +41,9 @@ pub(crate) const FREE: usize = LENGTH + 2 * BUFFERS;
 
 pub(crate) const COUNT: usize = FREE + 4;
 
-pub(crate) const SIZE: usize = COUNT + 2 * SEMAPHORES;
+pub(crate) const SETTINGS: usize = COUNT + 2 * SEMAPHORES;
+
+pub(crate) const SIZE: usize = SETTINGS + 1;
 
 // Whether w bytes from at on lie within n bytes.
 pub(crate) fn has_room(n: usize, at: usize, w: usize) -> bool

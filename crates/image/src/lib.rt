@@ -4,6 +4,7 @@ ghost use mathlib.Core.Path.{_≡_};
 ghost use Rattle.image.specs.Image.{blank, Read, Written};
 use boxes::Boxes;
 use kernel::Kernel;
+use kernel::Settings;
 use mail::Mail;
 use procs::Procs;
 use queues::Queues;
@@ -30,7 +31,13 @@ pub fn read(area: &[u8]) -> Kernel
     let mail = get::mail(area);
     let mut count = [0u16; SEMAPHORES];
     get::halfwords(area, layout::COUNT, &mut count);
-    Kernel { procs, mail, count }
+    let settings = get::settings(area);
+    Kernel {
+        procs,
+        mail,
+        count,
+        settings,
+    }
 }
 
 // The area becomes the image of k.
@@ -46,6 +53,8 @@ pub fn write(area: &mut [u8], k: Kernel)
     put::mail(area, m);
     let count = k.count;
     put::halfwords(area, layout::COUNT, &count);
+    let settings = k.settings;
+    put::settings(area, settings);
 }
 
 // Every field is zero.
@@ -81,5 +90,11 @@ fn blank() -> Kernel
         free: Bids(0),
     };
     let count = [0u16; SEMAPHORES];
-    Kernel { procs, mail, count }
+    let settings = Settings { slice: 0 };
+    Kernel {
+        procs,
+        mail,
+        count,
+        settings,
+    }
 }

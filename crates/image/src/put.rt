@@ -4,10 +4,11 @@ ghost use Prim.Native.Nat.{_*_};
 ghost use lib.ListN.{length};
 ghost use Rattle.image.specs.Bytes.{byte, le, each, Put};
 ghost use Rattle.plain.specs.Sizes.{processes};
-ghost use Rattle.image.specs.Image.{nodes, boxNodes, procsLong, mailLong, pid, bid, procs, mail};
+ghost use Rattle.image.specs.Image.{nodes, boxNodes, procsLong, mailLong, settingsAt, settingsLong, pid, bid, procs, mail, settings};
 use crate::layout;
 use crate::layout::BOX_NODES;
 use crate::layout::NODES;
+use kernel::Settings;
 use mail::Mail;
 use procs::Procs;
 use sizes::Bid;
@@ -122,4 +123,10 @@ pub(crate) fn mail(area: &mut [u8], m: Mail)
     let length = m.length;
     halfwords(area, layout::LENGTH, &length);
     word(area, layout::FREE, m.free.0);
+}
+
+pub(crate) fn settings(area: &mut [u8], x: Settings)
+    ensures { λ _. ⌜ Put settingsAt settingsLong (settings x) (now (area .entry)) (now (area .exit)) ⌝ }
+{
+    byte(area, layout::SETTINGS, x.slice);
 }

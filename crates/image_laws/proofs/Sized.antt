@@ -1,7 +1,7 @@
 -- Every struct that holds a sound state is sized: its numbers fit their bytes.
 -- Assumes nothing.
 use Prim.Native.Nat.{ℕ, _+_, _^_, _≤_, _<_}
-use mathlib.Core.Path.{_≡_}
+use mathlib.Core.Path.{_≡_, ap}
 use mathlib.Core.Bool.{Bool}
 use mathlib.Core.Logic.{⊎-elim}
 use mathlib.Core.List.{List, map}
@@ -17,10 +17,11 @@ use Rattle.rings.specs.Units.{numbered}
 use Rattle.rings.proofs.Laws.{found}
 use Rattle.queues.specs.Queue as Queue
 use Rattle.boxes.specs.Box as Box
-use Rattle.plain.specs.Sizes.{processes, mailboxes, buffers, bufferSize, longest, semaphores, highestCount, slice}
+use Rattle.plain.specs.Sizes.{processes, mailboxes, buffers, bufferSize, longest, semaphores, highestCount}
 use Rattle.plain.specs.Sound.{Sound}
 use Rattle.plain.specs.Sound as Plain
-use Rattle.plain.specs.State.{Message, State, buffersOf, inHand, held}
+use Rattle.plain.specs.Start.{longestSlice}
+use Rattle.plain.specs.State.{Message, Settings, State, buffersOf, inHand, held}
 use Rattle.plain_laws.proofs.Seats.{runner-range}
 use Rattle.procs.specs.Stands as Stands
 use Rattle.plain_laws.proofs.Mail.{not-in-hand}
@@ -72,14 +73,14 @@ short {k} {box} {hand} K M b = ⊎-elim
 -- ---- the whole
 
 pub sized : {k : Kernel} {s : State} → Holds k s → Sound s → Sized k
-unfolding Stands.numbers Carries.numbers Queue.tablesOf Box.tablesOf bufferSize longest highestCount slice
+unfolding Stands.numbers Carries.numbers Queue.tablesOf Box.tablesOf bufferSize longest highestCount longestSlice
 sized {k} {s} H S =
     let P = H .procs .stands in
     let K = H .mail in
     record {
       running = omega (arith, P .running, runner-range (s .settings .slice) (s .procs) (S .seated));
       class = fitting U8 processes (k .procs .class) (P .classes-long) (λ p h. omega (arith, P .class p, S .seated .in-class p));
-      ticks = fitting U8 processes (k .procs .ticks) (P .ticks-long) (λ p h. omega (arith, P .ticks p, S .seated .ticks-most p, S .settings .three-ticks));
+      ticks = fitting U8 processes (k .procs .ticks) (P .ticks-long) (λ p h. omega (arith, P .ticks p, S .seated .ticks-most p, S .settings .not-over));
       next = nexts-fit Queue.num (k .procs .queues .next) (k .procs .queues .prev) (P .queues) (omega arith);
       prev = prevs-fit Queue.num (k .procs .queues .next) (k .procs .queues .prev) (P .queues) (omega arith);
       ready = bits-fit (Stands.isReady (s .procs .queue)) (P .ready);
@@ -91,6 +92,7 @@ sized {k} {s} H S =
       lengths = fitting U16 buffers (k .mail .length) (K .lengths-long) (λ b h. omega (arith, short K (S .mail) b));
       free = bits-fit (Carries.isFree (s .box) (s .hand)) (K .free);
       count = fitting U16 semaphores (k .count) (H .counts .long) (λ i h. omega (arith, H .counts .each i, S .counts .most i));
+      slice = omega (arith, ap (λ (x : Settings). x .slice) (H .settings), S .settings .not-over);
     }
   where
     in-hand : (p : ℕ) → bufferIn (s .hand p) < buffers

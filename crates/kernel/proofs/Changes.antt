@@ -32,12 +32,13 @@ use Rattle.mail.specs.Moves as Mail
 use Rattle.mail.specs.declared.Mail as Mail′
 use Rattle.counts.proofs.Laws.{signalled-counted, claimed-counted}
 use Rattle.counts.specs.Counts as Counts
-use Rattle.kernel.specs.Holds.{settingsOf, Holds}
+use Rattle.kernel.specs.Holds.{named, settingsOf, Holds}
 use Rattle.kernel.specs.Judged.{Made}
 use Rattle.kernel.specs.declared.Kernel.{Kernel}
+use Rattle.kernel.specs.declared.Settings as Code
 
-pub made-holds : {r : Kernel} {s : State} {p : Stands.Numbers} {m : Carries.Numbers} {c : List ℕ} → Made r p m c → Stands.Keeps p (s .procs) → Carries.Carries m (s .box) (s .hand) → Counts.Counted c (s .count) → s .settings ≡ settingsOf r → Holds r s
-made-holds M P C N e = record { procs = rw (M .procs) P; mail = rw (M .mail) C; counts = rw (M .count) N; settings = e }
+pub made-holds : {r : Kernel} {s : State} {p : Stands.Numbers} {m : Carries.Numbers} {c : List ℕ} {x : Code.Settings} → Made r p m c x → Stands.Keeps p (s .procs) → Carries.Carries m (s .box) (s .hand) → Counts.Counted c (s .count) → s .settings ≡ named x → Holds r s
+made-holds M P C N e = record { procs = rw (M .procs) P; mail = rw (M .mail) C; counts = rw (M .count) N; settings = rw (M .settings) e }
 
 module _ {k : Kernel} {s : State} (H : Holds k s) where
   -- the slice that k has is that of the state
@@ -45,12 +46,12 @@ module _ {k : Kernel} {s : State} (H : Holds k s) where
   slice-is = ap (λ (t : Settings). t .slice) (sym (H .settings))
 
   -- only the processes move
-  pub moved-holds : {procs : Procs′.Procs} {next : State.Procs} → Stands.Keeps (Stands.numbers procs) next → Holds (record { procs = procs; mail = k .mail; count = k .count }) (move next s)
+  pub moved-holds : {procs : Procs′.Procs} {next : State.Procs} → Stands.Keeps (Stands.numbers procs) next → Holds (record { procs = procs; mail = k .mail; count = k .count; settings = k .settings }) (move next s)
   moved-holds K = record { procs = K; mail = H .mail; counts = H .counts; settings = H .settings }
 
   -- only the mail changes
   pub mailed-holds : {mail : Mail′.Mail} {box : ℕ → List Message} {hand : ℕ → Option Message} → Carries.Carries (Carries.numbers mail) box hand
-      → Holds (record { procs = k .procs; mail = mail; count = k .count }) (record { procs = s .procs; hand = hand; box = box; count = s .count; settings = s .settings })
+      → Holds (record { procs = k .procs; mail = mail; count = k .count; settings = k .settings }) (record { procs = s .procs; hand = hand; box = box; count = s .count; settings = s .settings })
   mailed-holds C = record { procs = H .procs; mail = C; counts = H .counts; settings = H .settings }
 
   module _ (S : Sound s) where
@@ -71,14 +72,14 @@ module _ {k : Kernel} {s : State} (H : Holds k s) where
     roused-kept q (w ∷ l) h e = rw slice-is (woken-kept (H .procs) (slice-some s S) (S .seated) (S .highest) q w l h e)
 
     -- p is stopped, by a number that is p's
-    pub stopped-holds : {r : Kernel} {q : ℕ} (p : ℕ) → q ≡ p → 1 ≤ p → p < processes → Made r (Procs.halted q procs) (Mail.letGo (Carries.numbers (k .mail)) q) (k .count) → Holds r (Plain.stopped p s)
+    pub stopped-holds : {r : Kernel} {q : ℕ} (p : ℕ) → q ≡ p → 1 ≤ p → p < processes → Made r (Procs.halted q procs) (Mail.letGo (Carries.numbers (k .mail)) q) (k .count) (k .settings) → Holds r (Plain.stopped p s)
     stopped-holds {r} p e h h′ M =
-        made-holds (subst (λ (q : ℕ). Made r (Procs.halted q procs) (Mail.letGo (Carries.numbers (k .mail)) q) (k .count)) e M)
+        made-holds (subst (λ (q : ℕ). Made r (Procs.halted q procs) (Mail.letGo (Carries.numbers (k .mail)) q) (k .count) (k .settings)) e M)
         (halted-kept (H .procs) (slice-some s S) (S .seated) (S .highest) p h h′) (let-go-carries (H .mail) (S .mail) p h′) (H .counts) (H .settings)
 
     -- buffer b takes message x, which the first waiter at mailbox m gets in hand, or which is queued last
     pub delivered-holds : {r : Kernel} (m b n : ℕ) (x : List ℕ) → length x ≡ n → m < mailboxes → b < buffers → b ≡ freeBuffer s
-        → Made r (Procs.woken (settingsOf k .slice) (atMailbox m) procs) (Mail.delivered (Carries.numbers (k .mail)) m (Procs.firstOf procs (atMailbox m)) b n) (k .count)
+        → Made r (Procs.woken (settingsOf k .slice) (atMailbox m) procs) (Mail.delivered (Carries.numbers (k .mail)) m (Procs.firstOf procs (atMailbox m)) b n) (k .count) (k .settings)
         → Holds r (Plain.deliver m (record { buffer = b; bytes = x }) (s .procs .queue (atMailbox m)) s)
     delivered-holds {r} m b n x long hm hb is M = go (s .procs .queue (atMailbox m)) refl
       where
@@ -99,7 +100,7 @@ module _ {k : Kernel} {s : State} (H : Holds k s) where
 
     -- the first waiter at semaphore i is made ready, or its count goes up
     pub signalled-holds : {r : Kernel} (i : ℕ) → i < semaphores → s .count i ≢ highestCount
-        → Made r (Procs.woken (settingsOf k .slice) (atSemaphore i) procs) (Carries.numbers (k .mail)) (Counts.signalled (k .count) i (ltb (Procs.firstOf procs (atSemaphore i)) processes))
+        → Made r (Procs.woken (settingsOf k .slice) (atSemaphore i) procs) (Carries.numbers (k .mail)) (Counts.signalled (k .count) i (ltb (Procs.firstOf procs (atSemaphore i)) processes)) (k .settings)
         → Holds r (Plain.wake i (s .procs .queue (atSemaphore i)) s)
     signalled-holds {r} i h top M = go (s .procs .queue (atSemaphore i)) refl
       where
@@ -111,7 +112,7 @@ module _ {k : Kernel} {s : State} (H : Holds k s) where
         go (w ∷ l) e = made-holds M (roused-kept (atSemaphore i) (w ∷ l) (omega arith) e) (H .mail) (counted (w ∷ l) e) (H .settings)
 
     -- a wait that passes semaphore i
-    pub claimed-holds : (i : ℕ) → i < semaphores → s .count i ≡ suc (s .count i - 1) → Holds (record { procs = k .procs; mail = k .mail; count = Counts.claimed (k .count) i }) (State.score i (s .count i - 1) s)
+    pub claimed-holds : (i : ℕ) → i < semaphores → s .count i ≡ suc (s .count i - 1) → Holds (record { procs = k .procs; mail = k .mail; count = Counts.claimed (k .count) i; settings = k .settings }) (State.score i (s .count i - 1) s)
     claimed-holds i h e = record {
       procs = H .procs;
       mail = H .mail;

@@ -1,18 +1,57 @@
--- The state that a fresh kernel is held in.
+-- A fresh kernel holds a fresh state, and a fresh start gives what the plain kernel does.
 -- Assumes nothing.
-use mathlib.Core.Path.{refl}
+use mathlib.Core.List.{[]}
+use mathlib.Core.Logic.{_≢_}
+use mathlib.Core.Path.{_≡_, refl, sym, ap, subst}
+use native.Mathlib.Omega.{arith}
 use lib.ListN.{replicate}
+use borrow.Author.Tests.{ne-eqb}
+use Rattle.plain.specs.Calls as Plain
 use Rattle.plain.specs.Sizes.{semaphores}
+use Rattle.plain.specs.Sound.{Set}
+use Rattle.plain.specs.Start.{startRefusals, freshStart}
 use Rattle.plain.specs.State as State
+use Rattle.plain.specs.State.{start, fresh}
+use Rattle.plain_laws.proofs.Refusals.{Proper}
+use Rattle.plain_laws.proofs.Start.{passes-set}
+use Rattle.verdicts.proofs.Found.{Finds, refuses, passes, finds}
+use Rattle.verdicts.specs.Chain.{found}
+use Rattle.verdicts.specs.declared.Verdict.{Verdict}
 use Rattle.procs.proofs.Kept.{fresh-kept}
 use Rattle.procs.specs.Moves as Procs
 use Rattle.mail.proofs.Moves.{fresh-carries}
 use Rattle.mail.specs.Moves as Mail
 use Rattle.counts.proofs.Laws.{fresh-counted}
-use Rattle.kernel.specs.Holds.{Holds}
-use Rattle.kernel.specs.Judged.{Made}
+use Rattle.kernel.specs.Holds.{named, Holds}
+use Rattle.kernel.specs.Judged.{answered, refusedWith, Made}
+use Rattle.kernel.specs.Promise.{Starts}
+use Rattle.kernel.specs.declared.Done.{Done}
 use Rattle.kernel.specs.declared.Kernel.{Kernel}
+use Rattle.kernel.specs.declared.Settings.{Settings}
 use Rattle.kernel.proofs.Changes.{made-holds}
+use Rattle.kernel.proofs.Judging.{runner-is, gives}
 
-pub fresh-holds : (k : Kernel) → Made k Procs.fresh Mail.freshMail (replicate semaphores 0) → Holds k State.fresh
-fresh-holds k M = made-holds M fresh-kept fresh-carries fresh-counted refl
+pub fresh-holds : {k : Kernel} {x : Settings} → Made k Procs.fresh Mail.freshMail (replicate semaphores 0) x → Holds k (start (named x))
+fresh-holds M = made-holds M fresh-kept fresh-carries fresh-counted refl
+
+start-proper : (x : State.Settings) → Proper (startRefusals x)
+start-proper x = omega arith
+
+module _ (x : State.Settings) {k : Kernel} {v : Verdict} {r : Done} where
+  -- refused, the usual settings hold
+  pub refused-start : v .code ≢ 0 → v ≡ found (startRefusals x) → Holds k fresh → r ≡ refusedWith k v → Starts x r
+  unfolding freshStart
+  refused-start d j H e = go (subst (Finds (startRefusals x)) (sym j) (finds (startRefusals x) (start-proper x)))
+    where
+      go : Finds (startRefusals x) v → Starts x r
+      go (refuses z n g) = rw (e, g fresh (Plain.done 0 (start x))) (record { next = H; answer = rw (ne-eqb (v .code) 14 n, runner-is k fresh H) refl })
+      go (passes z p g) = absurd (d (ap (λ (w : Verdict). w .code) z))
+
+  -- accepted, those that were named
+  pub accepted-start : v .code ≡ 0 → v ≡ found (startRefusals x) → (Set x → Holds k (start x)) → r ≡ answered k 0 0 → Starts x r
+  unfolding freshStart
+  accepted-start z j H e = go (subst (Finds (startRefusals x)) (sym j) (finds (startRefusals x) (start-proper x)))
+    where
+      go : Finds (startRefusals x) v → Starts x r
+      go (refuses d n g) = absurd (d z)
+      go (passes w p g) = rw (g fresh (Plain.done 0 (start x))) (gives 0 0 [] r e (H (passes-set x (p .0))))

@@ -15,6 +15,7 @@ use Rattle.verdicts.specs.declared.Verdict.{Verdict}
 use Rattle.kernel.specs.Holds.{Holds, IsSound}
 use Rattle.kernel.specs.declared.Done.{Done}
 use Rattle.kernel.specs.declared.Kernel.{Kernel}
+use Rattle.kernel.specs.declared.Settings.{Settings}
 
 -- the verdict v on a call with the refusals rs, in state k
 pub data Judged (rs : State → List Refusal) (k : Kernel) (v : Verdict) : Type 0 where
@@ -28,8 +29,9 @@ answered k code number = record { state = k; answer = record { code = code; numb
 abbrev pub refusedWith : Kernel → Verdict → Done
 refusedWith k v = record { state = k; answer = record { code = v .code; number = v .number; running = if eqb (v .code) 14 then 0 else k .procs .running .0 } }
 
--- k is made of these processes, this mail and these counts
-pub record Made (k : Kernel) (p : Procs.Numbers) (m : Mail.Numbers) (c : List ℕ) : Type 0 where
+-- k is made of these processes, this mail, these counts and these settings
+pub record Made (k : Kernel) (p : Procs.Numbers) (m : Mail.Numbers) (c : List ℕ) (x : Settings) : Type 0 where
   pub procs : Procs.numbers (k .procs) ≡ p
   pub mail : Mail.numbers (k .mail) ≡ m
   pub count : k .count ≡ c
+  pub settings : k .settings ≡ x

@@ -1,9 +1,11 @@
 // The kernel: its state by value, the decision whether a state is sound, and every call as a method that hands back the next state beside the answer.
 ghost use mathlib.Core.Path.{_≡_};
-ghost use Rattle.plain.specs.State.{fresh};
-ghost use Rattle.kernel.specs.Holds.{Holds};
+ghost use Rattle.plain.specs.Start.{sliceOf};
+ghost use Rattle.plain.specs.State.{start};
+ghost use Rattle.kernel.specs.Holds.{named, Holds};
 ghost use Rattle.kernel.specs.Facts.{Gathered};
 ghost use Rattle.kernel.specs.Judged.{answered, refusedWith};
+ghost use Rattle.kernel.specs.Promise.{Starts};
 use mail::Mail;
 use procs::Procs;
 use verdicts::Facts;
@@ -12,15 +14,19 @@ use verdicts::Verdict;
 mod letters;
 mod processes;
 mod semaphores;
+mod setup;
 mod sound;
 
-// The ticks of a full slice.
-pub(crate) const SLICE: u8 = sizes::SLICE as u8;
+// What is set at the fresh start: the ticks of a full slice.
+pub struct Settings {
+    pub slice: u8,
+}
 
 pub struct Kernel {
     pub procs: Procs,
     pub mail: Mail,
     pub count: [u16; sizes::SEMAPHORES],
+    pub settings: Settings,
 }
 
 #[repr(C)]
@@ -38,13 +44,32 @@ pub struct Done {
 
 impl Kernel {
     // Process 0 runs, every other number is unused, and nothing lies or is counted anywhere.
-    pub fn fresh() -> Kernel
-        ensures { λ r. ⌜ Holds r fresh ⌝ }
+    pub fn fresh(settings: Settings) -> Kernel
+        ensures { λ r. ⌜ Holds r (start (named settings)) ⌝ }
     {
         let procs = Procs::fresh();
         let mail = Mail::fresh();
         let count = [0u16; sizes::SEMAPHORES];
-        Kernel { procs, mail, count }
+        Kernel {
+            procs,
+            mail,
+            count,
+            settings,
+        }
+    }
+
+    // A fresh start with a slice named. Where that is refused the usual one holds.
+    pub fn fresh_start(slice: u32) -> Done
+        ensures { λ r. ⌜ Starts (sliceOf slice) r ⌝ }
+    {
+        let v = verdicts::on_fresh_start(slice);
+        if v.code != 0 {
+            return Kernel::fresh(Settings::usual()).refuse(v);
+        }
+        let settings = Settings {
+            slice: (slice % 256) as u8,
+        };
+        Kernel::fresh(settings).answer(0, 0)
     }
 
     // The process that runs.
@@ -96,21 +121,21 @@ impl Kernel {
     }
 
     fn with_procs(mut self, next: Procs) -> Kernel
-        ensures { λ r. ⌜ r ≡ record { procs = next; mail = self .mail; count = self .count } ⌝ }
+        ensures { λ r. ⌜ r ≡ record { procs = next; mail = self .mail; count = self .count; settings = self .settings } ⌝ }
     {
         self.procs = next;
         self
     }
 
     fn with_mail(mut self, next: Mail) -> Kernel
-        ensures { λ r. ⌜ r ≡ record { procs = self .procs; mail = next; count = self .count } ⌝ }
+        ensures { λ r. ⌜ r ≡ record { procs = self .procs; mail = next; count = self .count; settings = self .settings } ⌝ }
     {
         self.mail = next;
         self
     }
 
     fn with_count(mut self, next: [u16; sizes::SEMAPHORES]) -> Kernel
-        ensures { λ r. ⌜ r ≡ record { procs = self .procs; mail = self .mail; count = next } ⌝ }
+        ensures { λ r. ⌜ r ≡ record { procs = self .procs; mail = self .mail; count = next; settings = self .settings } ⌝ }
     {
         self.count = next;
         self
@@ -123,10 +148,11 @@ impl Kernel {
         let sound = self.is_sound();
         let k = self.procs;
         let runner = k.running;
+        let settings = self.settings;
         Facts {
             sound,
             runner,
-            slice: SLICE,
+            slice: settings.slice,
         }
     }
 }

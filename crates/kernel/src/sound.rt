@@ -1,15 +1,18 @@
-// Whether a state is sound, whatever stands in its fields: its processes, its mail, and what each asks of the other.
+// Whether a state is sound, whatever stands in its fields: its settings, its processes, its mail, and what each asks of the other.
 ghost use Rattle.rings.specs.Decides.{Decides};
 ghost use Rattle.kernel.specs.Holds.{IsSound};
 use crate::Kernel;
-use crate::SLICE;
 
 impl Kernel {
     pub fn is_sound(self) -> bool
         ensures { λ r. ⌜ Decides r (IsSound self) ⌝ }
     {
+        let settings = self.settings;
+        if !settings.may_be_set() {
+            return false;
+        }
         let k = self.procs;
-        let found = seats::seated(k, SLICE);
+        let found = seats::seated(k, settings.slice);
         if !found.ok {
             return false;
         }

@@ -1,15 +1,16 @@
 -- "Numbers to try at the edges": P1 to P10 as one table under one statement, and examples of what that table alone does not show.
--- Each script starts fresh. Assumes nothing.
+-- Each script starts fresh, with 3 named where 01 was written for 3. Assumes nothing.
 use Prim.Native.Nat.{ℕ}
 use mathlib.Core.Path.{_≡_, refl}
 use mathlib.Core.List.{List, [], _∷_, _++_, map}
 use native.Mathlib.Omega.{arith}
 use lib.ListN.{replicate}
 use Rattle.lists.specs.Lists.{total, lowest}
-use Rattle.plain.specs.Sizes.{capacity, bufferSize, longest, highestCount, slice}
-use Rattle.plain.specs.State.{fresh, spots, held, freeProcess, freeBuffer}
+use Rattle.plain.specs.Sizes.{capacity, bufferSize, longest, highestCount}
+use Rattle.plain.specs.State.{State, fresh, spots, held, freeProcess, freeBuffer}
 use Rattle.plain.specs.Runs.{choose, chooseBelow, join, standDown, makeReady, goTo, remove, halt}
 use Rattle.plain.specs.Calls.{Call, Answer, create, stop, end, yield, class, tick, send, receive, read, release, signal, wait, perform, refusals, step, answers, after}
+use Rattle.plain.specs.Start.{longestSlice, sliceOf, freshStart}
 use Rattle.plain.specs.Listing.{Row, row, queueOf}
 use Rattle.plain.specs.Why.{ready, semaphore, Says, reasonIn, reason, Numbers, numbers}
 
@@ -27,10 +28,10 @@ script l = map (λ (x : Line). x .0) l
 abbrev pub shown : Answer × List ℕ → ℕ × ℕ × ℕ
 shown a = (a .0 .code, a .0 .number, a .0 .running)
 
--- what the script of a row answers, and how far semaphore 15 counts after it; and what the row says of both
-unfoldable pub got : List Line → List (ℕ × ℕ × ℕ) × ℕ
-unfolding answers after step refusals perform choose chooseBelow join standDown makeReady goTo remove halt spots total lowest held freeProcess freeBuffer capacity bufferSize longest highestCount slice
-got l = (map shown (answers fresh (script l)), (after fresh (script l)) .count 15)
+-- what the script of a row answers from s on, and how far semaphore 15 counts after it; and what the row says of both
+unfoldable pub got : State → List Line → List (ℕ × ℕ × ℕ) × ℕ
+unfolding answers after step refusals perform freshStart choose chooseBelow join standDown makeReady goTo remove halt spots total lowest held freeProcess freeBuffer capacity bufferSize longest highestCount longestSlice
+got s l = (map shown (answers s (script l)), (after s (script l)) .count 15)
 
 abbrev pub told : List Line → List (ℕ × ℕ × ℕ) × ℕ
 told l = (map (λ (x : Line). (x .1, x .2, x .3)) l, 0)
@@ -63,9 +64,31 @@ table =
     ∷ (create 1 ⇒ (0, 1, 1) ∷ wait 15 ⇒ (32, 0, 0) ∷ signal 15 ⇒ (0, 0, 1) ∷ [])
     ∷ []
 
-pub table-holds : map got table ≡ map told table
+-- "Older units and stored replay scripts were tuned to 3; each place that relied on it now names 3"
+abbrev pub tuned : State
+tuned = freshStart (sliceOf 3) .next
+
+pub table-holds : map (got tuned) table ≡ map told table
 unfolding got
 table-holds = refl
+
+-- "5 when none is named": the running process after five ticks is 1 1 1 1 2
+abbrev pub untuned : List (List Line)
+untuned =
+    (create 2 ⇒ (0, 1, 1) ∷ create 2 ⇒ (0, 2, 1) ∷ tick ⇒ (0, 0, 1) ∷ tick ⇒ (0, 0, 1) ∷ tick ⇒ (0, 0, 1) ∷ tick ⇒ (0, 0, 1) ∷ tick ⇒ (0, 0, 2) ∷ [])
+    ∷ []
+
+pub untuned-holds : map (got fresh) untuned ≡ map told untuned
+unfolding got
+untuned-holds = refl
+
+-- What a fresh start answers, and the slice that holds after it: "16 for a slice outside 1 to 255 .. if refused, 5 holds".
+abbrev pub started : ℕ → ℕ × ℕ × ℕ × ℕ
+started n = let a : Answer = freshStart (sliceOf n) .answer in (a .code, a .number, a .running, freshStart (sliceOf n) .next .settings .slice)
+
+pub starts-shown : map started (0 ∷ 1 ∷ 3 ∷ 255 ∷ 256 ∷ []) ≡ (16, 0, 0, 5) ∷ (0, 0, 0, 1) ∷ (0, 0, 0, 3) ∷ (0, 0, 0, 255) ∷ (16, 0, 0, 5) ∷ []
+unfolding got
+starts-shown = refl
 
 -- "Mistakes that come easily", where the table does not show them
 abbrev pub mistakes : List (List Line)
@@ -78,7 +101,7 @@ mistakes =
     ∷ (create 1 ⇒ (0, 1, 1) ∷ send 0 abc ⇒ (0, 0, 1) ∷ receive 0 ⇒ (0, 3, 1) ∷ stop 1 ⇒ (0, 0, 0) ∷ create 1 ⇒ (0, 1, 1) ∷ read 3 ⇒ (8, 0, 1) ∷ [])
     ∷ []
 
-pub mistakes-shown : map got mistakes ≡ map told mistakes
+pub mistakes-shown : map (got tuned) mistakes ≡ map told mistakes
 unfolding got
 mistakes-shown = refl
 
@@ -90,14 +113,14 @@ listed =
 abbrev pub columns : Row → ℕ × ℕ × ℕ × ℕ × ℕ × ℕ × ℕ
 columns r = (r .place, r .which, r .position, r .class, r .ticks, r .full, r .length)
 
-pub listing-shown : map (λ (p : ℕ). columns (row (after fresh listed) p)) (0 ∷ 1 ∷ 2 ∷ 3 ∷ 4 ∷ 5 ∷ 6 ∷ [])
+pub listing-shown : map (λ (p : ℕ). columns (row (after tuned listed) p)) (0 ∷ 1 ∷ 2 ∷ 3 ∷ 4 ∷ 5 ∷ 6 ∷ [])
     ≡ (5, 0, 0, 0, 0, 0, 0) ∷ (1, 2, 0, 2, 2, 1, 1) ∷ (2, 2, 0, 2, 3, 0, 0) ∷ (2, 2, 1, 2, 3, 0, 0) ∷ (4, 15, 0, 4, 3, 0, 0) ∷ (3, 7, 0, 3, 3, 0, 0) ∷ (0, 0, 0, 0, 0, 0, 0) ∷ []
 unfolding got row queueOf
 listing-shown = refl
 
 -- Why each of them waits, in numbers; and while a process of class 4 runs.
 abbrev pub because : List Call → ℕ → ℕ × ℕ × ℕ
-because cs p = let n : Numbers = numbers (reason (after fresh cs) p) in (n .kind, n .which, n .ahead)
+because cs p = let n : Numbers = numbers (reason (after tuned cs) p) in (n .kind, n .which, n .ahead)
 
 pub reasons-shown : map (because listed) (0 ∷ 1 ∷ 2 ∷ 3 ∷ 4 ∷ 5 ∷ 6 ∷ []) ≡ (5, 1, 0) ∷ (1, 0, 0) ∷ (2, 0, 1) ∷ (2, 0, 2) ∷ (4, 15, 0) ∷ (3, 7, 0) ∷ (0, 0, 0) ∷ []
 unfolding got queueOf reasonIn reason
@@ -108,10 +131,10 @@ unfolding got queueOf reasonIn reason
 behind-another = refl
 
 -- that 3 is ready behind two of its class says that one of it runs and one stands before it; and 4 waits at semaphore 15 with nobody before it
-pub third-says : Says (after fresh listed .procs) 3 (ready 2)
+pub third-says : Says (after tuned listed .procs) 3 (ready 2)
 unfolding got
 third-says = ((λ e. omega arith, refl), (1, record { before = 2 ∷ []; after = []; whole = refl; many = refl }, refl))
 
-pub waiter-says : Says (after fresh listed .procs) 4 (semaphore 15 0)
+pub waiter-says : Says (after tuned listed .procs) 4 (semaphore 15 0)
 unfolding got
 waiter-says = (omega arith, record { before = []; after = []; whole = refl; many = refl })

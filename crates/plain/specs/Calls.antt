@@ -1,4 +1,4 @@
--- "What each call does" and "What comes back".
+-- "What each call does" and "What comes back". Where 01 says 3 ticks "the slice stands for 3" (request 3): that of the settings, n below.
 -- Assumes nothing.
 use Prim.Native.Nat.{ℕ, zero, suc, _+_, _-_}
 use mathlib.Core.Bool.{Bool, true, false, not, _||_}

@@ -1,4 +1,4 @@
--- "Who runs": choose, make ready, and how a process changes its place. A full slice has n ticks.
+-- "Who runs": choose, make ready, and how a process changes its place. A full slice has n ticks, which stand where 01 says 3.
 -- Assumes nothing.
 use Prim.Native.Nat.{ℕ, zero, suc}
 use mathlib.Core.Bool.{Bool, _||_}

@@ -41,10 +41,6 @@ semaphores = 16
 unfoldable pub highestCount : ℕ
 highestCount = 65535
 
--- "Slice: 3 ticks"
-unfoldable pub slice : ℕ
-slice = 3
-
 -- The queues of processes by number: the ready ones of class c are queue c; then come the waiters at the mailboxes, then those at the semaphores.
 abbrev pub atMailbox : ℕ → ℕ
 atMailbox m = classes + m

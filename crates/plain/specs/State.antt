@@ -6,7 +6,7 @@ use mathlib.Core.List.{List, [], _∷_, _++_}
 use mathlib.Core.Option.{Option, none, some}
 use lib.Dec.{eqb}
 use Rattle.lists.specs.Lists.{put, total, one, occurs, lowest}
-use Rattle.plain.specs.Sizes.{processes, mailboxes, buffers, slice, queues}
+use Rattle.plain.specs.Sizes.{processes, mailboxes, buffers, queues}
 
 -- A message, queued or in a hand: the buffer that took it, and its bytes.
 pub record Message : Type 0 where
@@ -36,9 +36,9 @@ pub record State : Type 0 where
 abbrev pub start : Settings → State
 start x = record { procs = record { running = 0; queue = λ q. []; class = λ p. 0; ticks = λ p. 0 }; hand = λ p. none; box = λ m. []; count = λ k. 0; settings = x }
 
--- where no settings are named
+-- request 3: "5 when none is named"
 abbrev pub usual : Settings
-usual = record { slice = slice }
+usual = record { slice = 5 }
 
 abbrev pub fresh : State
 fresh = start usual

@@ -4,16 +4,21 @@ use Prim.Native.Nat.{ℕ}
 use mathlib.Core.Path.{_≡_, refl}
 use mathlib.Core.List.{List, [], _∷_}
 use Rattle.lists.specs.Lists.{total, lowest}
-use Rattle.plain.specs.Sizes.{capacity, bufferSize, longest, slice}
-use Rattle.plain.specs.State.{State, fresh, spots, held, freeProcess, freeBuffer}
+use Rattle.plain.specs.Sizes.{capacity, bufferSize, longest}
+use Rattle.plain.specs.State.{State, start, spots, held, freeProcess, freeBuffer}
 use Rattle.plain.specs.Runs.{choose, chooseBelow, join, standDown, makeReady, goTo, remove, halt}
 use Rattle.plain.specs.Calls.{Call, create, end, tick, send, receive, perform, refusals, step, after}
+use Rattle.plain.specs.Start.{sliceOf}
 use Rattle.plain_laws.specs.History.{sent, gone, countAhead, moments, ticksSeen, turnsBefore}
 
--- the state that calls lead to from fresh
+-- the state that calls lead to from fresh, with 3 ticks to a slice
+abbrev tuned : State
+tuned = start (sliceOf 3)
+
+-- the state that calls lead to from there
 unfoldable reached : List Call → State
-unfolding after step refusals perform choose chooseBelow join standDown makeReady goTo remove halt spots total lowest held freeProcess freeBuffer capacity bufferSize longest slice
-reached cs = after fresh cs
+unfolding after step refusals perform choose chooseBelow join standDown makeReady goTo remove halt spots total lowest held freeProcess freeBuffer capacity bufferSize longest
+reached cs = after tuned cs
 
 -- 2 is ready behind 1, who runs: one ahead. It sees three ticks before it runs, as many as the bound allows, and 1 has two more turns.
 equals : List Call
@@ -38,6 +43,6 @@ front-waits-for-none = (refl, refl, refl)
 posted : List Call
 posted = create 1 ∷ receive 0 ∷ send 0 [] ∷ send 0 [] ∷ send 0 [] ∷ create 2 ∷ receive 0 ∷ []
 
-messages-counted : (sent 0 fresh posted ≡ 3) × (gone 0 fresh posted ≡ 2)
+messages-counted : (sent 0 tuned posted ≡ 3) × (gone 0 tuned posted ≡ 2)
 unfolding reached posted sent gone
 messages-counted = (refl, refl)

@@ -7,7 +7,7 @@ use mathlib.Core.List.{List}
 use native.Mathlib.Omega.{arith}
 use Rattle.lists.specs.Lists.{occurs, without}
 use Rattle.lists.proofs.Laws.{same?, occurs-without-same, occurs-without-other}
-use Rattle.plain.specs.Sizes.{processes, classes, queues, slice}
+use Rattle.plain.specs.Sizes.{processes, classes, queues}
 use Rattle.plain.specs.State.{Procs, State, places}
 use Rattle.plain.specs.Sound.{Seated, Sound, In}
 use Rattle.plain_laws.specs.Moves.{leave, toRear, settle, Move, none, Chain}
@@ -27,8 +27,7 @@ abbrev pub Nobody : ℕ → Type 0
 Nobody x = ⊥
 
 pub slice-some : (s : State) → Sound s → 1 ≤ s .settings .slice
-unfolding slice
-slice-some s k = omega (arith, k .settings .three-ticks)
+slice-some s k = k .settings .some-ticks
 
 settled-framed : (n : ℕ) (s m : Procs) (Enters : ℕ → ℕ → Type 0) (Ends : ℕ → Type 0) → Seated n m → Framed s Enters Ends m → Framed s Enters Ends (settle m)
 settled-framed n s m Enters Ends k f =

@@ -7,6 +7,7 @@ pub mod Mail
 pub mod Accepted
 pub mod Refusals
 pub mod Sound
+pub mod Start
 pub mod Messages
 pub mod Rear
 pub mod Ahead

@@ -96,10 +96,19 @@ pub skip : (o : ℕ) (ks os : List ℕ) → Every (λ k. k ≢ o) ks → inOrder
 skip o [] os d e = refl
 skip o (k ∷ ks) os d e = rw (ne-eqb k o (d .0)) e
 
-pub in-order : (s : State) (c : Call) → inOrder (codes (refusals s c)) order ≡ true
-in-order s c =
-    let ks : List ℕ = codes (refusals s c) in
-    skip 14 ks (15 ∷ own) (each-code (λ k. k ≢ 14) s c (omega arith)) (skip 15 ks own (each-code (λ k. k ≢ 15) s c (omega arith)) (own-codes s c .0))
+module _ (s : State) (c : Call) where
+  abbrev ks : List ℕ
+  ks = codes (refusals s c)
+
+  -- and so they do behind the three that are judged before them, each of which may be left out
+  pub behind-15 : inOrder ks (15 ∷ own) ≡ true
+  behind-15 = skip 15 ks own (each-code (λ k. k ≢ 15) s c (omega arith)) (own-codes s c .0)
+
+  pub behind-16 : inOrder ks (16 ∷ 15 ∷ own) ≡ true
+  behind-16 = skip 16 ks (15 ∷ own) (each-code (λ k. k ≢ 16) s c (omega arith)) behind-15
+
+  pub in-order : inOrder ks order ≡ true
+  in-order = skip 14 ks (16 ∷ 15 ∷ own) (each-code (λ k. k ≢ 14) s c (omega arith)) behind-16
 
 -- none has code 0, which is no refusal, and none 14, which is judged before them
 abbrev pub Proper : List Refusal → Type 0

@@ -13,6 +13,7 @@ use Rattle.lists.specs.Lists.{put, occurs}
 use Rattle.lists.proofs.Laws.{same?, put-same, put-other, put-cases, one-other, total-zero}
 use Rattle.plain.specs.Sizes.{processes, classes, mailboxes, semaphores, queues, capacity, longest, highestCount, atMailbox, atSemaphore}
 use Rattle.plain.specs.State.{Message, Procs, Settings, State, start, usual, move, give, fill, score, line, places, spots, held, freeBuffer}
+use Rattle.plain.specs.Start.{longestSlice}
 use Rattle.plain.specs.Runs.{makeReady, goTo, halt}
 use Rattle.plain.specs.Calls.{Call, create, stop, end, yield, class, tick, send, receive, read, release, signal, wait, perform, refusals, step, after, stopped, deliver, fetch, wake, claim, isEmpty}
 use Rattle.plain.specs.Sound.{Set, Seated, Mail, Hands, Waits, Counts, Sound, In}
@@ -235,7 +236,8 @@ module _ (s : State) (k : Sound s) where
 -- ---- from fresh
 
 pub usual-set : Set usual
-usual-set = record { three-ticks = refl }
+unfolding longestSlice
+usual-set = record { some-ticks = omega arith; not-over = omega arith }
 
 pub start-sound : (x : Settings) → Set x → Sound (start x)
 unfolding spots held

@@ -6,21 +6,24 @@ use mathlib.Core.Bool.{true≢false}
 use mathlib.Core.List.{List, [], _∷_, map}
 use native.Mathlib.Omega.{arith}
 use Rattle.lists.specs.Lists.{total, lowest}
-use Rattle.plain.specs.Sizes.{slice}
 use Rattle.plain.specs.State.{Settings, start, usual, spots, freeProcess}
 use Rattle.plain.specs.Runs.{choose, chooseBelow, goTo, join, standDown, makeReady}
 use Rattle.plain.specs.Calls.{Call, Answer, create, yield, perform, refusals, step, answers, after}
 use Rattle.plain_laws.specs.History.{moments, overtaken, lastFirst}
 use Rattle.plain_laws.specs.Reasons.{OneReason}
-use Rattle.plain_laws.specs.Theorems.{Fair, Soundness, Refusals, Messages, Fairness, Kernel, replies, AnswersAsPlain, UselessShutOut}
+use Rattle.plain_laws.specs.Theorems.{Fair, Soundness, FreshStarts, Refusals, Messages, Fairness, Kernel, replies, AnswersAsPlain, UselessShutOut}
 use Rattle.plain_laws.proofs.Sound.{usual-set, start-sound, step-sound, after-sound}
 use Rattle.plain_laws.proofs.Refusals.{given, only, unchanged, settings-stay, after-settings, in-order}
+use Rattle.plain_laws.proofs.Start.{start-taken, start-refused, begun-sound}
 use Rattle.plain_laws.proofs.Messages.{counted-from-start}
 use Rattle.plain_laws.proofs.Fair.{fair}
 use Rattle.plain_laws.proofs.Why as Why
 
 pub soundness : Soundness
 soundness = record { usual-set = usual-set; at-first = start-sound; kept = λ s c k. step-sound s k c; always = λ x cs z. after-sound (start x) cs (start-sound x z); settings-stay = settings-stay }
+
+pub fresh-starts : FreshStarts
+fresh-starts = record { taken = start-taken; given = start-refused; sound = begun-sound; ordered = λ x. refl }
 
 pub refusals-given : Refusals
 refusals-given = record { given = given; only = only; unchanged = unchanged; ordered = in-order }
@@ -44,12 +47,12 @@ abbrev numbers : List (Answer × List ℕ) → List ℕ
 numbers l = map (λ (a : Answer × List ℕ). a .0 .number) l
 
 plainly : (x : Settings) → (codes (answers (start x) three) ≡ 0 ∷ 0 ∷ 0 ∷ []) × (numbers (answers (start x) three) ≡ 1 ∷ 2 ∷ 3 ∷ [])
-unfolding answers step refusals perform join standDown makeReady spots total lowest freeProcess slice
+unfolding answers step refusals perform join standDown makeReady spots total lowest freeProcess
 plainly x = (refl, refl)
 
 -- a class that there is none of, after one create
 refused-later : (x : Settings) → codes (answers (start x) (create 2 ∷ create 5 ∷ [])) ≡ 0 ∷ 2 ∷ []
-unfolding answers step refusals perform join standDown makeReady spots total lowest freeProcess slice
+unfolding answers step refusals perform join standDown makeReady spots total lowest freeProcess
 refused-later x = refl
 
 apart : (a b c : ℕ) → a ∷ b ∷ c ∷ [] ≡ 1 ∷ 2 ∷ 3 ∷ [] → (a ≡ b → ⊥) × (b ≡ c → ⊥)
@@ -83,7 +86,7 @@ module _ (x : Settings) (K : Kernel) (h : AnswersAsPlain x K) where
   no-class = let e : codes (replies K (K .start) (create 2 ∷ create 5 ∷ [])) ≡ 0 ∷ 2 ∷ [] = ap codes (h (create 2 ∷ create 5 ∷ [])) ∙ refused-later x in cc
 
 last-first : overtaken [] 2 (map lastFirst (moments (after (start usual) (create 2 ∷ create 2 ∷ [])) (yield ∷ []))) ≡ 1
-unfolding overtaken moments after step refusals perform choose chooseBelow goTo join standDown makeReady spots total lowest freeProcess slice
+unfolding overtaken moments after step refusals perform choose chooseBelow goTo join standDown makeReady spots total lowest freeProcess
 last-first = refl
 
 pub useless-shut-out : UselessShutOut

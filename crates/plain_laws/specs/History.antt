@@ -59,12 +59,12 @@ inOrder (k ∷ ks) [] = false
 inOrder [] (o ∷ os) = true
 inOrder (k ∷ ks) (o ∷ os) = if eqb k o then inOrder ks os else inOrder (k ∷ ks) os
 
--- "14, then 15, 5, then 1 to 4, then 6, 7, 8, 10, 11, 12, 13, 9": 14 and 15 are judged before a call's own
+-- "14, then 15, 5, then 1 to 4, then 6, 7, 8, 10, 11, 12, 13, 9", and "16 .. after 14" (request 3): these three are judged before a call's own
 abbrev pub own : List ℕ
 own = 5 ∷ 1 ∷ 2 ∷ 3 ∷ 4 ∷ 6 ∷ 7 ∷ 8 ∷ 10 ∷ 11 ∷ 12 ∷ 13 ∷ 9 ∷ []
 
 abbrev pub order : List ℕ
-order = 14 ∷ 15 ∷ own
+order = 14 ∷ 16 ∷ 15 ∷ own
 
 -- "All codes but 0 and 32 are refusals"
 abbrev pub isRefusal : Answer → Bool

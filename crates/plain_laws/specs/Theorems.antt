@@ -5,18 +5,26 @@ use mathlib.Core.Path.{_≡_}
 use mathlib.Core.Bool.{true, false}
 use mathlib.Core.List.{List, [], _∷_, map}
 use lib.ListN.{length}
-use Rattle.plain.specs.State.{Procs, Settings, State, start, usual}
-use Rattle.plain.specs.Calls.{Call, create, yield, Answer, Refusal, refusals, refused, step, answers, after}
+use Rattle.plain.specs.State.{Procs, Settings, State, start, usual, fresh}
+use Rattle.plain.specs.Calls.{Call, create, yield, Answer, Refusal, done, refusals, refused, step, answers, after}
+use Rattle.plain.specs.Start.{noSlice, startRefusals, freshStart}
 use Rattle.plain.specs.Sound.{Set, Sound}
 use Rattle.plain_laws.specs.History.{First, codes, inOrder, order, isRefusal, sent, gone, Ready, isAhead, countAhead, Moment, moments, ticksSeen, turnsBefore, overtaken, lastFirst}
 
--- 1. A fresh state is sound with any settings x that may be set, the usual ones among them; every call keeps that, and so every state that calls lead to from fresh is sound. No call changes the settings.
+-- 1. A fresh state is sound with any settings x that may be set, the usual ones among them; every call keeps that, and so every state that calls lead to from fresh is sound. No call changes the settings: the slice "is fixed at the fresh start".
 pub record Soundness : Type 0 where
   pub usual-set : Set usual
   pub at-first : (x : Settings) → Set x → Sound (start x)
   pub kept : (s : State) (c : Call) → Sound s → Sound (step s c .next)
   pub always : (x : Settings) (cs : List Call) → Set x → Sound (after (start x) cs)
   pub settings-stay : (s : State) (c : Call) → step s c .next .settings ≡ s .settings
+
+-- The fresh start is refused exactly where its settings may not be set, 16 coming "after 14", and else begins with them; what it leads to is sound in any case.
+pub record FreshStarts : Type 0 where
+  pub taken : (x : Settings) → Set x → freshStart x ≡ done 0 (start x)
+  pub given : (x : Settings) → (Set x → ⊥) → freshStart x ≡ refused (noSlice x) fresh
+  pub sound : (x : Settings) → Sound (freshStart x .next)
+  pub ordered : (x : Settings) → inOrder (14 ∷ codes (startRefusals x)) order ≡ true
 
 -- 2. Demand 1 (docs/KERNEL.md) of the plain kernel: a refusal is given where its condition holds and none before it in the order does, and at no other time; it changes nothing.
 pub record Refusals : Type 0 where
@@ -32,7 +40,7 @@ Messages = (x : Settings) (m : ℕ) (cs : List Call) → sent m (start x) cs ≡
 -- 4. Demand 3 (docs/KERNEL.md), for every p that is ready in a state that calls lead to from fresh, however it came to be, whatever is called then.
 -- p is ready where the processes stand as in r, and `ms` is what follows. Nothing of the slice is used but that it is at least 1.
 pub record Fair (slice : ℕ) (r : Procs) (p : ℕ) (ms : List Moment) : Type 0 where
-  -- "sees at most 3 k ticks fall while its class runs before it runs or is stopped", k of its class being ahead of it
+  -- "sees at most 3 k ticks fall while its class runs before it runs or is stopped", k of its class being ahead of it: by request 3 "slice times k"
   pub few-ticks : ticksSeen p ms ≤ slice * countAhead r p
   -- nobody who is not ahead of it runs as one of its class before it
   pub nobody-passes : (x : ℕ) → isAhead r p x ≡ false → turnsBefore x p ms ≡ 0

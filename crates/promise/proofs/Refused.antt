@@ -10,8 +10,8 @@ use Rattle.plain.specs.Calls as Plain
 use Rattle.plain.specs.State.{State}
 use Rattle.plain_laws.proofs.Accepted.{accepts}
 use Rattle.plain_laws.proofs.Calls.{accepted}
-use Rattle.plain_laws.proofs.Refusals.{find, first-given, own-codes, each-code, skip}
-use Rattle.plain_laws.specs.History.{Passed, First, codes, inOrder, own, order, isRefusal}
+use Rattle.plain_laws.proofs.Refusals.{find, first-given, own-codes, behind-16}
+use Rattle.plain_laws.specs.History.{Passed, First, codes, inOrder, order, isRefusal}
 use Rattle.promise.specs.Lent.{Lent, lends}
 use Rattle.promise.specs.Promise.{Promised, sound, unsound, withStore, refusalsOf}
 use Rattle.promise.specs.Theorems.{Heard, Step, RefusedRightly}
@@ -39,7 +39,7 @@ module _ (l : Lent) (store : List ℕ) (c : Plain.Call) (s : State) where
   refuses e = ⊎-elim (λ f. f) (λ (p : Passed rs). absurd (true≢false (sym e ∙ passes p))) (find rs)
 
 in-order : (l : Lent) (store : List ℕ) (c : Plain.Call) (s : State) → inOrder (14 ∷ codes (refusalsOf l store c s)) order ≡ true
-in-order Lent.nothing store c s = skip 15 (codes (Plain.refusals s c)) own (each-code (λ k. k ≢ 15) s c (omega arith)) (own-codes s c .0)
+in-order Lent.nothing store c s = behind-16 s c
 in-order (Lent.bytes b) store c s = own-codes s c .0
 in-order (Lent.room n) store c s = own-codes s c .0
 

@@ -16,7 +16,7 @@ use Rattle.replay.specs.Theorems.{WholeProgram}
 
 pub whole-program : WholeProgram
 whole-program store line store′ line′ out store″ out′ o r size a room finish =
-    whole-input (a .first) store line (allOf (a .reads)) _ store″ (r .state) (a .fresh) size (at-end out out′ r (a .handed .chunks) room finish)
+    whole-input (a .first) store line (allOf (a .reads)) _ store″ (r .desk) (a .fresh) size (at-end out out′ r (a .handed .chunks) room finish)
 
 pub whole-replay : {store line store′ line′ out store″ out′ : List ℕ} {o : Ongoing} {r : Turn} → length store ≡ storeSize → Replays store line o store′ line′ → longestText < length out → Finishes store′ line′ out o store″ out′ r → WholeReplay store″ r
 whole-replay {store} {line} {store′} {line′} {out} {store″} {out′} {o} {r} size a room finish =

@@ -1,4 +1,4 @@
--- The words in which the program's functions promise that they lose nothing of the bytes that were read and nothing of the state. What is read and what is written no contract can say.
+-- The words in which the program's functions promise that they lose nothing of the bytes that were read and nothing of the desk. What is read and what is written no contract can say.
 -- Assumes nothing.
 use Prim.Native.Nat.{ℕ}
 use mathlib.Core.List.{List, [], _∷_, _++_}
@@ -27,8 +27,8 @@ pub record Replays (store line : List ℕ) (o′ : Ongoing) (store′ line′ : 
   pub reads : List (List ℕ)
   pub handed : Handed first store line (allOf reads) o′ store′ line′
 
--- what was put into the area to be written is what the plain kernel's desk writes for the lines of all the reads, and the kernel and the store are at its state
+-- what was put into the area to be written is what the plain kernel's desk writes for the lines of all the reads, and the desk and the store are where it stands then
 pub record WholeReplay (store′ : List ℕ) (r : Turn) : Type 0 where
   pub reads : List (List ℕ)
   pub written : List ℕ
-  pub whole : Whole (allOf reads) written (r .state) store′
+  pub whole : Whole (allOf reads) written (r .desk) store′

@@ -14,4 +14,4 @@ use Rattle.replay.specs.Replays.{allOf, Replays}
 
 abbrev pub WholeProgram : Type 0
 WholeProgram = (store line store′ line′ out store″ out′ : List ℕ) (o : Ongoing) (r : Turn) → length store ≡ storeSize → (a : Replays store line o store′ line′) → longestText < length out → Finishes store′ line′ out o store″ out′ r
-    → Whole (allOf (a .reads)) (a .handed .written ++ take (r .length) out′) (r .state) store″
+    → Whole (allOf (a .reads)) (a .handed .written ++ take (r .length) out′) (r .desk) store″

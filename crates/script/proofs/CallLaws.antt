@@ -8,7 +8,7 @@ use mathlib.Core.Option.{Option, none, some}
 use lib.ListN.{length}
 use lib.Seq.{take-append-seam}
 use Rattle.plain.specs.Calls.{create, stop, end, yield, class, tick, send, receive, read, release, signal, wait}
-use Rattle.script.specs.Grammar.{Order, does, why, words, given, sentence, order}
+use Rattle.script.specs.Grammar.{Order, does, why, slice, words, given, sentence, order}
 use Rattle.script.specs.Request.{means, asking, requestOf, Tells}
 use Rattle.script.specs.Promises.{firstSpace, bytesOf, carried}
 use Rattle.script.specs.declared.calls.Request.{Request}
@@ -53,6 +53,7 @@ means-request (some (does release)) = refl
 means-request (some (does (signal n))) = refl
 means-request (some (does (wait n))) = refl
 means-request (some (why n)) = refl
+means-request (some (slice n)) = refl
 
 pub tells : (line : List ℕ) (r : Request) → r ≡ requestOf (order line) → Tells line r
 tells line r e =

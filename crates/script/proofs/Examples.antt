@@ -9,7 +9,7 @@ use mathlib.Core.Option.{Option, none, some}
 use lib.ListN.{replicate}
 use Rattle.plain.specs.Calls.{create, stop, end, yield, class, tick, send, receive, read, release, signal, wait}
 use Rattle.answers.specs.Ascii.{ascii}
-use Rattle.script.specs.Grammar.{Order, does, why, order}
+use Rattle.script.specs.Grammar.{Order, does, why, slice, order}
 
 abbrev lines : List (String × Option Order)
 lines =
@@ -26,9 +26,12 @@ lines =
     ∷ ("signal 15", some (does (signal 15)))
     ∷ ("wait 15", some (does (wait 15)))
     ∷ ("why 14", some (why 14))
+    ∷ ("slice 3", some (slice 3))
     -- what the kernel refuses is a good line
     ∷ ("class 9", some (does (class 9)))
     ∷ ("send 300 -", some (does (send 300 [])))
+    ∷ ("slice 0", some (slice 0))
+    ∷ ("slice 65535", some (slice 65535))
     -- numbers
     ∷ ("read 512", some (does (read 512)))
     ∷ ("read 513", none)
@@ -38,6 +41,8 @@ lines =
     ∷ ("create 65536", none)
     ∷ ("create 4294967297", none)
     ∷ ("create -1", none)
+    ∷ ("slice 65536", none)
+    ∷ ("slice 03", none)
     -- bytes
     ∷ ("send 3 4", none)
     ∷ ("send 3 4A", none)
@@ -51,6 +56,8 @@ lines =
     ∷ ("create", none)
     ∷ ("why", none)
     ∷ ("why 1 2", none)
+    ∷ ("slice", none)
+    ∷ ("slice 3 3", none)
     ∷ ("send 3", none)
     ∷ ("send 3 41 42", none)
     ∷ (" tick", none)

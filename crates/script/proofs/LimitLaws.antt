@@ -27,6 +27,7 @@ RoomFits (Word.Call q) = Unit {0}
 RoomFits (Word.Send n) = Unit {0}
 RoomFits (Word.Read n) = n ≤ largestRoom
 RoomFits (Word.Why n) = Unit {0}
+RoomFits (Word.Slice n) = Unit {0}
 
 pub room-fits : {w : Word} (n : ℕ) → w ≡ Word.Read n → RoomFits w → n ≤ largestRoom
 room-fits n e = subst RoomFits e

@@ -1,4 +1,4 @@
--- "The replay desk": which order a line of a script is: a kernel call, or request 1's question why a process waits.
+-- "The replay desk": which order a line of a script is: a kernel call, request 1's question why a process waits, or request 3's naming of a slice.
 -- A line is the list of its bytes, without the newline. Assumes nothing.
 use Prim.Native.Nat.{ℕ, _+_, _*_, _-_}
 use Prim.Native.Char.{code}
@@ -105,12 +105,13 @@ abbrev pub bytes : List ℕ → Option (List ℕ)
 bytes [] = none
 bytes (x ∷ l) = if same (x ∷ l) (ascii "-") then some [] else atMost mostBytes (pairs (x ∷ l))
 
--- ---- orders: "create, stop, end, yield, class, tick, send, receive, read, release, signal, wait", and request 1's "why"
+-- ---- orders: "create, stop, end, yield, class, tick, send, receive, read, release, signal, wait", request 1's "why", and request 3's "slice"
 
--- what a line asks of the desk: a kernel call, or why a process waits
+-- What a line asks of the desk: a kernel call, why a process waits, or a fresh start with so many ticks to a slice. Whether a line may name the slice is the desk's matter.
 pub data Order : Type 0 where
   does : Call → Order
   why : ℕ → Order
+  slice : ℕ → Order
 
 -- what stands beside w in a list of words, and none where w is not in it
 abbrev pub beside : List ℕ → List (String × Option Order) → Option Order
@@ -146,6 +147,7 @@ numbered n =
     ∷ ("signal", some (does (signal n)))
     ∷ ("wait", some (does (wait n)))
     ∷ ("why", some (why n))
+    ∷ ("slice", some (slice n))
     ∷ []
 
 -- the words that take a number and one thing more: "send takes a mailbox and up to 600 bytes"

@@ -7,11 +7,11 @@ use mathlib.Core.Option.{Option, none, some}
 use lib.ListN.{length, take, replicate}
 use Rattle.plain.specs.Calls as Plain
 use Rattle.plain.specs.Calls.{create, stop, end, yield, class, tick, send, receive, read, release, signal, wait}
-use Rattle.script.specs.Grammar.{Order, does, why, order, mostBytes, largestRoom}
+use Rattle.script.specs.Grammar.{Order, does, why, slice, order, mostBytes, largestRoom}
 use Rattle.script.specs.declared.calls.Quiet.{Quiet}
 use Rattle.script.specs.declared.calls.Quiet.the-variants.{Create, Stop, End, Yield, Class, Tick, Receive, Release, Signal, Wait}
 use Rattle.script.specs.declared.calls.Word.{Word}
-use Rattle.script.specs.declared.calls.Word.the-variants.{Bad, Call, Send, Read, Why}
+use Rattle.script.specs.declared.calls.Word.the-variants.{Bad, Call, Send, Read, Why, Slice}
 use Rattle.script.specs.declared.calls.Request.{Request}
 
 -- which call it is
@@ -34,6 +34,7 @@ meaning (Call q) b = some (does (called q))
 meaning (Send n) b = some (does (send n b))
 meaning (Read n) b = some (does (read n))
 meaning (Why n) b = some (why n)
+meaning (Slice n) b = some (slice n)
 
 abbrev pub means : Request → Option Order
 means r = meaning (r .word) (take (r .length) (r .bytes))
@@ -61,6 +62,7 @@ requestOf (some (does release)) = asking (Call Release) []
 requestOf (some (does (signal n))) = asking (Call (Signal n)) []
 requestOf (some (does (wait n))) = asking (Call (Wait n)) []
 requestOf (some (why n)) = asking (Why n) []
+requestOf (some (slice n)) = asking (Slice n) []
 
 -- What `request` promises of r for a line. The last two follow from the first two: they are what a caller needs to lend the message and the room.
 pub record Tells (line : List ℕ) (r : Request) : Type 0 where

@@ -26,13 +26,14 @@ pub enum Quiet {
     Wait(u32),
 }
 
-// Which order a line is: none; a call that is lent nothing, one that carries bytes, or one that is lent a room; or why a process waits.
+// Which order a line is: none; a call that is lent nothing, one that carries bytes, or one that is lent a room; why a process waits; or a fresh start with so many ticks to a slice.
 pub enum Word {
     Bad,
     Call(Quiet),
     Send(u32),
     Read(u32),
     Why(u32),
+    Slice(u32),
 }
 
 // What a line asks for. The message of a send is the first length bytes; what an order does not use is zero.
@@ -117,6 +118,9 @@ fn numbered(w: &[u8], n: u32) -> Word
     }
     if is_word(w, b"why") {
         return Word::Why(n);
+    }
+    if is_word(w, b"slice") {
+        return Word::Slice(n);
     }
     Word::Bad
 }

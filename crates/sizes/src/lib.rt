@@ -33,8 +33,10 @@ pub const SEMAPHORES: usize = 16;
 
 pub const HIGHEST_COUNT: usize = 65535;
 
-// Ticks of a full slice.
-pub const SLICE: usize = 3;
+// Ticks of a full slice at most, and where none are named.
+pub const LONGEST_SLICE: usize = 255;
+
+pub const USUAL_SLICE: usize = 5;
 
 // The queues of processes: the ready ones of class c are queue c; then come the waiters at the mailboxes, then those at the semaphores.
 pub const AT_MAILBOXES: usize = CLASSES;

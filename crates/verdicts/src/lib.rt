@@ -5,6 +5,7 @@ ghost use mathlib.Core.Path.{_≡_};
 ghost use lib.Dec.{eqb, leb, ltb};
 ghost use Rattle.plain.specs.Calls.{on, noClass, noMailbox, noSemaphore};
 ghost use Rattle.plain.specs.Listing.{fewRows};
+ghost use Rattle.plain.specs.Start.{sliceOf, startRefusals};
 ghost use Rattle.plain.specs.Why.{noSuch};
 ghost use Rattle.plain.specs.Sizes.{processes, buffers, longest, highestCount, storeSize};
 ghost use Rattle.verdicts.specs.Chain.{orElse, found};
@@ -21,6 +22,8 @@ const BUFFERS: u32 = sizes::BUFFERS as u32;
 const SEMAPHORES: u32 = sizes::SEMAPHORES as u32;
 
 const HIGHEST_COUNT: u32 = sizes::HIGHEST_COUNT as u32;
+
+const LONGEST_SLICE: u32 = sizes::LONGEST_SLICE as u32;
 
 // What judging a call finds: a refusal, or code 0.
 pub struct Verdict {
@@ -64,6 +67,14 @@ fn either(a: bool, b: bool) -> bool
         return true;
     }
     b
+}
+
+// A fresh start with a slice named. It looks at no state.
+pub fn on_fresh_start(slice: u32) -> Verdict
+    ensures { λ r. ⌜ r ≡ found (startRefusals (sliceOf slice)) ⌝ }
+{
+    let v = Verdict { code: 0, number: 0 };
+    v.or(either(slice == 0, LONGEST_SLICE < slice), 16)
 }
 
 // A state that is not sound comes before every other refusal.

@@ -16,6 +16,7 @@ pub const NO_FREE_BUFFER: u32 = 12;
 pub const COUNT_AT_LIMIT: u32 = 13;
 pub const NOT_SOUND: u32 = 14;
 pub const NOT_A_STORE: u32 = 15;
+pub const NO_SUCH_SLICE: u32 = 16;
 pub const CALLER_WAITS: u32 = 32;
 
 #[derive(Clone, Copy, Debug, PartialEq, Eq)]

@@ -1,10 +1,10 @@
-//! What random scripts reached: the codes answered, the reasons told and the deepest states, to show that they are worth
-//! comparing.
+//! What random scripts reached: the slices named, the codes answered, the reasons told and the deepest states, to show that
+//! they are worth comparing.
 
 use crate::answer::*;
 use crate::call::Call;
-use crate::desk::answer_line;
-use crate::grammar::parse;
+use crate::desk::Desk;
+use crate::grammar::{named_slice, parse};
 use crate::kernel::*;
 use crate::scripts::Questioned;
 use crate::why::KINDS;
@@ -31,6 +31,32 @@ pub struct Coverage {
     pub refused_questions: u64,
     /// Told of process 0, while it ran and while another did.
     pub reasons_of_0: BTreeSet<u32>,
+    /// How often scripts began with each line.
+    pub first_lines: BTreeMap<String, u64>,
+    /// What the first line was where a later one names a slice.
+    pub named_later_after: BTreeSet<&'static str>,
+    /// Slices that a process used up, tick by tick.
+    pub used_up: BTreeSet<u32>,
+}
+
+/// Stands for every first line that does not begin with `slice`.
+const ANOTHER: &str = "another";
+/// First lines that must have come.
+const FIRST_LINES: [&str; 11] = [
+    ANOTHER, "slice 1", "slice 2", "slice 3", "slice 5", "slice 255", "slice 0", "slice 256", "slice 65535", "slice 65536", "slice 03",
+];
+
+/// What a first line may be, by what it says and its answer.
+const BEGINNINGS: [&str; 4] = ["a slice", "a refused slice", "a call", "a bad line"];
+
+fn beginning(line: &[u8], answer: &str) -> &'static str {
+    let which = match (named_slice(line), answer) {
+        (Some(_), "0 0 0") => 0,
+        (Some(_), _) => 1,
+        (None, "bad") => 3,
+        (None, _) => 2,
+    };
+    BEGINNINGS[which]
 }
 
 impl Coverage {
@@ -38,19 +64,39 @@ impl Coverage {
     pub fn add(&mut self, seed: u64, lines: u64) {
         let mut script = Questioned::new(seed, lines);
         self.styles.insert(script.style());
-        let mut kernel = Kernel::fresh();
+        let mut desk = Desk::fresh();
+        let mut begun_with = None;
         while let Some(line) = script.next_line() {
-            let answer = answer_line(&mut kernel, &line);
+            let spends_the_last_tick = line == b"tick" && has_one_tick(desk.kernel());
+            let answer = desk.answer(&line);
             self.lines += 1;
+            match begun_with {
+                None => {
+                    self.add_first_line(&line);
+                    begun_with = Some(beginning(&line, &answer));
+                }
+                Some(first) if named_slice(&line).is_some() => {
+                    self.named_later_after.insert(first);
+                }
+                Some(_) => (),
+            }
+            if spends_the_last_tick {
+                self.used_up.insert(desk.kernel().slice);
+            }
             match answer.split(' ').next().and_then(|code| code.parse().ok()) {
                 None => self.bad_lines += 1,
                 Some(code) => match parse(&line) {
-                    Some(Call::Why(process)) => self.add_question(&kernel, process),
+                    Some(Call::Why(process)) => self.add_question(desk.kernel(), process),
                     _ => *self.codes.entry(code).or_default() += 1,
                 },
             }
-            self.look_at(&kernel);
+            self.look_at(desk.kernel());
         }
+    }
+
+    fn add_first_line(&mut self, line: &[u8]) {
+        let slice = line.starts_with(b"slice").then(|| line.escape_ascii().to_string());
+        *self.first_lines.entry(slice.unwrap_or(ANOTHER.to_string())).or_default() += 1;
     }
 
     fn add_question(&mut self, kernel: &Kernel, process: u32) {
@@ -78,14 +124,14 @@ impl Coverage {
         raise(&mut self.most_waiters_at_a_semaphore, kernel.semaphores.iter().map(|semaphore| semaphore.waiters.len()));
         raise(&mut self.highest_count, kernel.semaphores.iter().map(|semaphore| semaphore.count));
         let preempted = |queue: &std::collections::VecDeque<usize>| {
-            queue.len() > 1 && kernel.processes[queue[0]].as_ref().is_some_and(|process| process.ticks < SLICE)
+            queue.len() > 1 && kernel.processes[queue[0]].as_ref().is_some_and(|process| process.ticks < kernel.slice)
         };
         self.preempted += u64::from(kernel.ready.iter().any(preempted));
     }
 
     /// What of all that there is to reach was not reached; empty is good.
     pub fn missing(&self) -> Vec<String> {
-        let codes = (DONE..=COUNT_AT_LIMIT).chain([CALLER_WAITS]).filter(|code| !self.codes.contains_key(code));
+        let codes = (DONE..=COUNT_AT_LIMIT).chain([NO_SUCH_SLICE, CALLER_WAITS]).filter(|code| !self.codes.contains_key(code));
         let mut missing: Vec<String> = codes.map(|code| format!("code {code}")).collect();
         let mut want = |reached: bool, what: &str| {
             if !reached {
@@ -108,8 +154,22 @@ impl Coverage {
         }
         want(self.refused_questions > 0, "a refused question");
         want(self.reasons_of_0.len() == 2, "a question about 0, while it runs and while another does");
+        for line in FIRST_LINES {
+            want(self.first_lines.contains_key(line), &format!("a script with the first line: {line}"));
+        }
+        for first in BEGINNINGS {
+            want(self.named_later_after.contains(first), &format!("a slice named later, after {first}"));
+        }
+        for slice in [1, 2, 3, USUAL_SLICE, LONGEST_SLICE] {
+            want(self.used_up.contains(&slice), &format!("a slice of {slice} used up"));
+        }
         missing
     }
+}
+
+/// Whether a process runs that has one tick left.
+fn has_one_tick(kernel: &Kernel) -> bool {
+    kernel.processes[kernel.running].as_ref().is_some_and(|process| process.ticks == 1)
 }
 
 impl fmt::Display for Coverage {
@@ -129,6 +189,9 @@ impl fmt::Display for Coverage {
             self.preempted
         )?;
         let reasons: Vec<String> = self.reasons.iter().map(|(kind, (times, most))| format!("{kind}:{times}({most})")).collect();
-        write!(out, "; reasons by kind, with the most ahead, {}; {} questions refused", reasons.join(" "), self.refused_questions)
+        writeln!(out, "; reasons by kind, with the most ahead, {}; {} questions refused", reasons.join(" "), self.refused_questions)?;
+        let first_lines: Vec<String> = self.first_lines.iter().map(|(line, times)| format!("{line}:{times}")).collect();
+        let used_up: Vec<String> = self.used_up.iter().map(u32::to_string).collect();
+        write!(out, "  first lines {}; slices used up {}", first_lines.join(", "), used_up.join(" "))
     }
 }

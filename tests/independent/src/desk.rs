@@ -1,13 +1,73 @@
 //! The replay desk: a script in, one line out for each line of it.
 
+use crate::answer::{Answer, DONE, NO_SUCH_SLICE};
 use crate::call::Told;
-use crate::grammar::{hex, parse, LINE_BYTES};
+use crate::grammar::{hex, named_slice, parse, LINE_BYTES};
 use crate::kernel::Kernel;
 use std::io::{self, BufRead, Read, Write};
 
+/// A desk between two lines of a script.
+pub struct Desk {
+    kernel: Kernel,
+    /// Whether a line was read. Only the first can name a slice, whatever it says.
+    begun: bool,
+}
+
+impl Desk {
+    pub fn fresh() -> Desk {
+        Desk { kernel: Kernel::fresh(), begun: false }
+    }
+
+    pub fn kernel(&self) -> &Kernel {
+        &self.kernel
+    }
+
+    pub fn has_begun(&self) -> bool {
+        self.begun
+    }
+
+    /// Does what the next line asks, and gives the line that it is answered with; both without newline.
+    pub fn answer(&mut self, line: &[u8]) -> String {
+        let is_first = !std::mem::replace(&mut self.begun, true);
+        match named_slice(line) {
+            Some(slice) if is_first => numbers(&self.start(slice)),
+            _ => self.call(line),
+        }
+    }
+
+    /// The fresh start with a slice; where it is refused, that without one stands.
+    fn start(&mut self, slice: u32) -> Answer {
+        let code = match Kernel::fresh_slice(slice) {
+            Some(kernel) => {
+                self.kernel = kernel;
+                DONE
+            }
+            None => NO_SUCH_SLICE,
+        };
+        Answer { code, number: 0, running: 0 }
+    }
+
+    fn call(&mut self, line: &[u8]) -> String {
+        let Some(call) = parse(line) else {
+            return "bad".to_string();
+        };
+        let (answer, told) = self.kernel.apply(&call);
+        let numbers = numbers(&answer);
+        match told {
+            Some(Told::Message(bytes)) => format!("{numbers} {}", hex(&bytes)),
+            Some(Told::Reason(reason)) => format!("{numbers} {reason}"),
+            None => numbers,
+        }
+    }
+}
+
+fn numbers(answer: &Answer) -> String {
+    format!("{} {} {}", answer.code, answer.number, answer.running)
+}
+
 /// Replays a script of any size, with lines of any length, in bounded memory.
 pub fn replay(input: &mut impl BufRead, output: &mut impl Write) -> io::Result<()> {
-    let mut kernel = Kernel::fresh();
+    let mut desk = Desk::fresh();
     let mut line = Vec::new();
     loop {
         line.clear();
@@ -20,21 +80,7 @@ pub fn replay(input: &mut impl BufRead, output: &mut impl Write) -> io::Result<(
         } else if line.len() > LINE_BYTES {
             input.skip_until(b'\n')?;
         }
-        writeln!(output, "{}", answer_line(&mut kernel, &line))?;
-    }
-}
-
-/// Does what one line asks, and gives the line that it is answered with; both without newline.
-pub fn answer_line(kernel: &mut Kernel, line: &[u8]) -> String {
-    let Some(call) = parse(line) else {
-        return "bad".to_string();
-    };
-    let (answer, told) = kernel.apply(&call);
-    let numbers = format!("{} {} {}", answer.code, answer.number, answer.running);
-    match told {
-        Some(Told::Message(bytes)) => format!("{numbers} {}", hex(&bytes)),
-        Some(Told::Reason(reason)) => format!("{numbers} {reason}"),
-        None => numbers,
+        writeln!(output, "{}", desk.answer(&line))?;
     }
 }
 
@@ -47,11 +93,11 @@ pub fn replayed(script: &[u8]) -> Vec<u8> {
 
 /// The state that a script in memory leads to.
 pub fn state_after(script: &[u8]) -> Kernel {
-    let mut kernel = Kernel::fresh();
+    let mut desk = Desk::fresh();
     for line in script.split(|&byte| byte == b'\n') {
-        answer_line(&mut kernel, line);
+        desk.answer(line);
     }
-    kernel
+    desk.kernel
 }
 
 #[cfg(test)]
@@ -62,15 +108,24 @@ mod tests {
         assert_eq!(String::from_utf8(replayed(script.as_bytes())).unwrap(), expected);
     }
 
-    /// Answers to a list of calls, separated by commas on both sides.
+    /// The same of a script that is tuned to the slice of document 01, which its first line names.
+    fn check_at_3(script: &str, expected: &str) {
+        check(&format!("slice 3\n{script}"), &format!("0 0 0\n{expected}"));
+    }
+
+    /// A list with commas as lines.
+    fn lines(list: &str) -> String {
+        list.split(", ").map(|line| format!("{line}\n")).collect()
+    }
+
+    /// Answers to a list of calls after the line `slice 3`, separated by commas on both sides.
     fn answers(script: &str, expected: &str) {
-        let lines = |list: &str| list.split(", ").map(|line| format!("{line}\n")).collect::<String>();
-        check(&lines(script), &lines(expected));
+        check_at_3(&lines(script), &lines(expected));
     }
 
     #[test]
     fn sample() {
-        check(
+        check_at_3(
             "create 2\ncreate 2\ntick\nsend 3 414243\nreceive 3\nread 2\nread 512\nend\nfrob\n",
             "0 1 1\n0 2 1\n0 0 1\n0 0 1\n0 3 1\n9 3 1\n0 3 1 414243\n0 0 2\nbad\n",
         );
@@ -99,7 +154,7 @@ mod tests {
     fn process_numbers_run_out() {
         let mut expected: String = (1..=31).map(|number| format!("0 {number} 1\n")).collect();
         expected += "10 0 1\n2 0 1\n0 0 1\n0 7 1\n10 0 1\n";
-        check(&("create 0\n".repeat(32) + "create 5\nstop 7\ncreate 0\ncreate 4\n"), &expected);
+        check_at_3(&("create 0\n".repeat(32) + "create 5\nstop 7\ncreate 0\ncreate 4\n"), &expected);
     }
 
     #[test]
@@ -118,16 +173,16 @@ mod tests {
 
     #[test]
     fn mailboxes_and_buffers_run_out() {
-        check(&"send 0 -\n".repeat(9), &("0 0 0\n".repeat(8) + "11 0 0\n"));
+        check_at_3(&"send 0 -\n".repeat(9), &("0 0 0\n".repeat(8) + "11 0 0\n"));
         let fill: String = (0..4).map(|mailbox| format!("send {mailbox} 00\n").repeat(8)).collect();
-        check(&(fill + "send 4 00\nsend 0 00\n"), &("0 0 0\n".repeat(32) + "12 0 0\n11 0 0\n"));
+        check_at_3(&(fill + "send 4 00\nsend 0 00\n"), &("0 0 0\n".repeat(32) + "12 0 0\n11 0 0\n"));
     }
 
     #[test]
     fn counts_run_out() {
         let script = "signal 3\n".repeat(65_536) + "create 0\nwait 3\nsignal 3\nsignal 3\nsignal 16\n";
         let expected = "0 0 0\n".repeat(65_535) + "13 0 0\n0 1 1\n0 0 1\n0 0 1\n13 0 1\n4 0 1\n";
-        check(&script, &expected);
+        check_at_3(&script, &expected);
     }
 
     #[test]
@@ -154,7 +209,7 @@ mod tests {
         // A stopped waiter gets nothing; a stopped holder frees its buffer.
         answers("create 1, wait 0, stop 1, signal 0, create 1, wait 0", "0 1 1, 32 0 0, 0 0 0, 0 0 0, 0 1 1, 0 0 1");
         let holder = "create 0\n".to_string() + &"send 0 00\nsend 1 00\nsend 2 00\nsend 3 00\n".repeat(8);
-        check(
+        check_at_3(
             &(holder + "receive 0\nsend 4 00\nstop 1\nsend 4 00\nsend 4 00\n"),
             &("0 1 1\n".to_string() + &"0 0 1\n".repeat(32) + "0 1 1\n12 0 1\n0 0 0\n0 0 0\n12 0 0\n"),
         );
@@ -168,6 +223,68 @@ mod tests {
             "create 2, create 3, class 2, tick, tick, tick, tick, tick, tick",
             "0 1 1, 0 2 2, 0 0 1, 0 0 1, 0 0 1, 0 0 2, 0 0 2, 0 0 2, 0 0 1",
         );
+    }
+
+    /// Two processes of one class take turns: who runs after each tick, where the script begins with these lines.
+    fn turns(first_lines: &str, answered: &str, ticks: &[u32]) {
+        let script = format!("{first_lines}create 2\ncreate 2\n{}", "tick\n".repeat(ticks.len()));
+        let after: String = ticks.iter().map(|running| format!("0 0 {running}\n")).collect();
+        check(&script, &format!("{answered}0 1 1\n0 2 1\n{after}"));
+    }
+
+    #[test]
+    fn slices() {
+        turns("", "", &[1, 1, 1, 1, 2, 2, 2, 2, 2, 1]);
+        turns("slice 5\n", "0 0 0\n", &[1, 1, 1, 1, 2, 2, 2, 2, 2, 1]);
+        turns("slice 3\n", "0 0 0\n", &[1, 1, 2, 2, 2, 1]);
+        turns("slice 2\n", "0 0 0\n", &[1, 2, 2, 1, 1, 2]);
+        turns("slice 1\n", "0 0 0\n", &[2, 1, 2, 1]);
+        turns("slice 255\n", "0 0 0\n", &[&[1; 254][..], &[2; 255], &[1; 2]].concat());
+    }
+
+    #[test]
+    fn refused_slices() {
+        for slice in [0, 256, 257, 511, 65_535] {
+            turns(&format!("slice {slice}\n"), "16 0 0\n", &[1, 1, 1, 1, 2]);
+        }
+    }
+
+    #[test]
+    fn only_the_first_line_names_a_slice() {
+        turns("slice 3\nslice 2\n", "0 0 0\nbad\n", &[1, 1, 2]);
+        turns("slice 2\nslice 2\nslice 0\n", "0 0 0\nbad\nbad\n", &[1, 2]);
+        turns("slice 0\nslice 3\n", "16 0 0\nbad\n", &[1, 1, 1, 1, 2]);
+        turns("tick\nslice 3\n", "0 0 0\nbad\n", &[1, 1, 1, 1, 2]);
+        turns("why 0\nslice 3\n", "0 0 0 running\nbad\n", &[1, 1, 1, 1, 2]);
+        turns("\nslice 3\n", "bad\nbad\n", &[1, 1, 1, 1, 2]);
+        turns(&format!("{}\nslice 3\n", "x".repeat(5_000)), "bad\nbad\n", &[1, 1, 1, 1, 2]);
+        for line in ["slice", "slice ", "slice 3 3", "slice 3 ", " slice 3", "slice  3", "slice 03", "slice 65536", "slice +3", "Slice 3", "slice 3\r"] {
+            turns(&format!("{line}\n"), "bad\n", &[1, 1, 1, 1, 2]);
+            turns(&format!("{line}\nslice 3\n"), "bad\nbad\n", &[1, 1, 1, 1, 2]);
+        }
+        check("slice 3", "0 0 0\n");
+        check("slice 0", "16 0 0\n");
+    }
+
+    #[test]
+    fn whole_slices() {
+        let check_list = |script: &str, expected: &str| check(&lines(script), &lines(expected));
+        // One that is preempted keeps the 4 of 5 ticks that it has left.
+        check_list(
+            "create 2, create 2, tick, create 4, end, tick, tick, tick, tick",
+            "0 1 1, 0 2 1, 0 0 1, 0 3 3, 0 0 1, 0 0 1, 0 0 1, 0 0 1, 0 0 2",
+        );
+        // One that yields, that waited, or that comes from another class has a whole one.
+        check_list("slice 2, create 1, create 1, tick, yield, yield, tick, tick", "0 0 0, 0 1 1, 0 2 1, 0 0 1, 0 0 2, 0 0 1, 0 0 1, 0 0 2");
+        check_list(
+            "slice 2, create 1, tick, wait 0, create 1, signal 0, yield, tick, tick",
+            "0 0 0, 0 1 1, 0 0 1, 32 0 0, 0 2 2, 0 0 2, 0 0 1, 0 0 1, 0 0 2",
+        );
+        check_list(
+            "slice 2, create 1, tick, receive 0, create 1, send 0 -, yield, tick, tick",
+            "0 0 0, 0 1 1, 0 0 1, 32 0 0, 0 2 2, 0 0 2, 0 0 1, 0 0 1, 0 0 2",
+        );
+        check_list("slice 2, create 1, create 3, tick, class 1, yield, tick, tick", "0 0 0, 0 1 1, 0 2 2, 0 0 2, 0 0 1, 0 0 2, 0 0 2, 0 0 1");
     }
 
     #[test]
@@ -186,13 +303,13 @@ mod tests {
 
     #[test]
     fn questions_move_nothing() {
-        let mut kernel = Kernel::fresh();
-        for line in "create 1, create 3, tick, send 4 aa, receive 4, create 3, wait 2".split(", ") {
-            answer_line(&mut kernel, line.as_bytes());
-            let before = kernel.clone();
+        let mut desk = Desk::fresh();
+        for line in "slice 3, create 1, create 3, tick, send 4 aa, receive 4, create 3, wait 2".split(", ") {
+            desk.answer(line.as_bytes());
+            let before = desk.kernel.clone();
             for process in 0..40 {
-                answer_line(&mut kernel, format!("why {process}").as_bytes());
-                assert_eq!(kernel, before);
+                desk.answer(format!("why {process}").as_bytes());
+                assert_eq!(desk.kernel, before);
             }
         }
     }
@@ -201,11 +318,11 @@ mod tests {
     fn states_after_scripts() {
         assert_eq!(state_after(b""), Kernel::fresh());
         assert_eq!(state_after(b"tick\nbad\n\n"), Kernel::fresh());
-        let mut kernel = Kernel::fresh();
+        let mut kernel = Kernel::fresh_slice(3).unwrap();
         kernel.create(2);
         kernel.receive(3);
-        assert_eq!(state_after(b"create 2\nwhy 1\nreceive 3\nfrob\n"), kernel);
-        assert_eq!(state_after(b"create 2\nreceive 3"), kernel);
+        assert_eq!(state_after(b"slice 3\ncreate 2\nwhy 1\nreceive 3\nfrob\n"), kernel);
+        assert_eq!(state_after(b"slice 3\ncreate 2\nreceive 3"), kernel);
     }
 
     #[test]
@@ -235,11 +352,11 @@ mod tests {
 
     #[test]
     fn input_in_pieces() {
-        let script = format!("create 2\n{}\n\ncreate 2\ntick\n{}\nread 1", "x".repeat(1_300), "y".repeat(5_000));
+        let script = format!("slice 3\ncreate 2\n{}\n\ncreate 2\ntick\n{}\nread 1", "x".repeat(1_300), "y".repeat(5_000));
         for size in [1, 2, 3, 7, 1_299, 1_300, 1_301, 1_302] {
             let mut output = Vec::new();
             replay(&mut io::BufReader::with_capacity(size, script.as_bytes()), &mut output).unwrap();
-            assert_eq!(output, b"0 1 1\nbad\nbad\n0 2 1\n0 0 1\nbad\n8 0 1\n", "pieces of {size}");
+            assert_eq!(output, b"0 0 0\n0 1 1\nbad\nbad\n0 2 1\n0 0 1\nbad\n8 0 1\n", "pieces of {size}");
         }
     }
 }

@@ -32,6 +32,11 @@ pub fn parse(line: &[u8]) -> Option<Call> {
     })
 }
 
+/// The slice that a line, without its newline, names where it is the first of its script; None if it names none.
+pub fn named_slice(line: &[u8]) -> Option<u32> {
+    number(line.strip_prefix(b"slice ")?)
+}
+
 /// Decimal, 0 to 65,535, no leading zero.
 fn number(word: &[u8]) -> Option<u32> {
     let leading_zero = word.len() > 1 && word[0] == b'0';
@@ -169,6 +174,20 @@ mod tests {
     fn lines_of_calls() {
         for line in ["create 4", "stop 65535", "end", "yield", "class 0", "tick", "send 3 -", "send 3 00ff", "receive 15", "read 512", "release", "signal 7", "wait 8"] {
             assert_eq!(line_of(&parse(line.as_bytes()).unwrap()), line);
+        }
+    }
+
+    #[test]
+    fn the_word_slice() {
+        for (line, slice) in [("slice 0", 0), ("slice 1", 1), ("slice 3", 3), ("slice 255", 255), ("slice 256", 256), ("slice 65535", 65_535)] {
+            assert_eq!(named_slice(line.as_bytes()), Some(slice));
+            bad(line.as_bytes());
+        }
+        for line in ["slice", "slice ", "slice 3 ", " slice 3", "slice  3", "slice 3 3", "slice\t3", "slice 3\r", "slice 03", "slice 00", "slice -"] {
+            assert_eq!(named_slice(line.as_bytes()), None, "{line}");
+        }
+        for line in ["", "3", "slice 65536", "slice 4294967299", "slice 3a", "slice 0x3", "slice +3", "Slice 3", "slices 3", "slice3", "tick"] {
+            assert_eq!(named_slice(line.as_bytes()), None, "{line}");
         }
     }
 

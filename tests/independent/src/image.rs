@@ -4,7 +4,7 @@ use crate::kernel::*;
 use crate::sound::is_sound;
 use std::collections::VecDeque;
 
-pub const IMAGE_BYTES: usize = 443;
+pub const IMAGE_BYTES: usize = 444;
 
 // Where each field begins.
 const RUNNING: usize = 0;
@@ -21,6 +21,7 @@ const FULL_BITS: usize = 339;
 const LENGTH: usize = 343;
 const FREE_BITS: usize = 407;
 const COUNT: usize = 411;
+pub const SLICE: usize = 443;
 
 /// What the byte at this place belongs to.
 pub fn field_of(place: usize) -> &'static str {
@@ -36,6 +37,7 @@ pub fn field_of(place: usize) -> &'static str {
         (LENGTH, "length"),
         (FREE_BITS, "bits"),
         (COUNT, "count"),
+        (SLICE, "slice"),
     ];
     fields.iter().rfind(|(start, _)| *start <= place).map_or("", |(_, name)| name)
 }
@@ -76,6 +78,7 @@ pub fn image(kernel: &Kernel) -> [u8; IMAGE_BYTES] {
     for (number, semaphore) in kernel.semaphores.iter().enumerate() {
         write_two(&mut area, COUNT + 2 * number, semaphore.count as usize);
     }
+    area[SLICE] = kernel.slice as u8;
     area
 }
 
@@ -140,7 +143,7 @@ fn read(area: &[u8; IMAGE_BYTES]) -> Option<Kernel> {
     let two = |place: usize| usize::from(area[place]) + 256 * usize::from(area[place + 1]);
     let message = |buffer: usize| (buffer < BUFFERS).then(|| Message { buffer, bytes: vec![0; two(LENGTH + 2 * buffer)] });
 
-    let mut kernel = Kernel::fresh();
+    let mut kernel = Kernel { slice: u32::from(area[SLICE]), ..Kernel::fresh() };
     kernel.running = usize::from(area[RUNNING]);
     for number in (1..PROCESSES).filter(|&number| !bit(UNUSED_BITS, number)) {
         let hand = if bit(FULL_BITS, number) { Some(message(usize::from(area[HAND + number]))?) } else { None };

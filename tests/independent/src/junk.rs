@@ -3,10 +3,16 @@
 use crate::grammar::LINE_BYTES;
 use crate::random::Random;
 
-const NEAR_WORDS: [&str; 30] = [
+const NEAR_WORDS: [&str; 33] = [
     "", " ", "-", "frob", "bad", "listing", "listing 32", "Tick", "TICK", "tic", "ticks", "tick 1", "tick -", "end 0", "yield 0",
     "release 0", "create", "stop", "class", "receive", "read", "send", "signal", "wait", "send 0", "send 0 ", "creat 1", "creates 1",
-    "receiv 0", "#",
+    "receiv 0", "#", "slice", "slice 3", "slice 256",
+];
+
+/// Lines that name no slice, wherever they stand.
+const NEAR_SLICES: [&str; 20] = [
+    "slice", "slice ", "slice -", "slice 00", "slice 005", "slice -3", "slice +3", "slice 3 3", "slice 3 ", "slice  3", " slice 3",
+    "slice\t3", "slice 3\r", "slice 65539", "slice 4294967299", "slice 3a", "Slice 3", "SLICE 3", "slices 3", "slice3",
 ];
 
 /// Questions that are none.
@@ -49,6 +55,11 @@ pub fn junk_question(random: &mut Random, question: &str) -> Vec<u8> {
         0 => random.pick(&NEAR_QUESTIONS).unwrap_or("why").as_bytes().to_vec(),
         _ => junk_line(random, question),
     }
+}
+
+/// One of the lines that nearly name a slice, by a number of any size.
+pub fn near_slice(number: u64) -> Vec<u8> {
+    NEAR_SLICES[(number % NEAR_SLICES.len() as u64) as usize].as_bytes().to_vec()
 }
 
 fn bad_number(random: &mut Random) -> String {
@@ -134,7 +145,7 @@ fn filled(random: &mut Random, call: &str, length: usize) -> Vec<u8> {
 #[cfg(test)]
 mod tests {
     use super::*;
-    use crate::grammar::parse;
+    use crate::grammar::{named_slice, parse};
 
     #[test]
     fn no_newlines_and_mostly_bad() {
@@ -147,6 +158,11 @@ mod tests {
         }
         let giant = giant_line(&mut random, "tick");
         assert!(giant.len() >= 1_000_000 && !giant.contains(&b'\n'));
+    }
+
+    #[test]
+    fn slices_that_are_none() {
+        assert!(NEAR_SLICES.iter().all(|line| named_slice(line.as_bytes()).is_none() && parse(line.as_bytes()).is_none()));
     }
 
     #[test]

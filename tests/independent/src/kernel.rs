@@ -1,4 +1,5 @@
-//! The kernel of document 01 as places and lists in order. Written to be obvious, not fast.
+//! The kernel of document 01 as places and lists in order, its slice a setting as in document 02. Written to be obvious, not
+//! fast.
 //!
 //! A kernel here is always sound: it starts fresh and only its calls change it, or it comes from `image::decide`.
 //! So codes 14 and 15, which are for states and stores from outside, are not given here but in `lent`.
@@ -17,8 +18,9 @@ pub const BUFFER_BYTES: usize = 512;
 pub const STORE_BYTES: usize = BUFFERS * BUFFER_BYTES;
 pub const SEMAPHORES: usize = 16;
 pub const COUNT_LIMIT: u32 = 65_535;
-/// Ticks of a whole slice.
-pub const SLICE: u32 = 3;
+/// Ticks of a whole slice where none is named.
+pub const USUAL_SLICE: u32 = 5;
+pub const LONGEST_SLICE: u32 = 255;
 
 /// A message and the buffer that it lies in.
 #[derive(Clone, Debug, PartialEq, Eq)]
@@ -57,9 +59,12 @@ pub struct Kernel {
     pub ready: [VecDeque<usize>; CLASSES],
     pub mailboxes: [Mailbox; MAILBOXES],
     pub semaphores: [Semaphore; SEMAPHORES],
+    /// Ticks of a whole slice, fixed at the fresh start.
+    pub slice: u32,
 }
 
 impl Kernel {
+    /// The fresh start where no slice is named.
     pub fn fresh() -> Kernel {
         Kernel {
             running: 0,
@@ -67,7 +72,13 @@ impl Kernel {
             ready: Default::default(),
             mailboxes: Default::default(),
             semaphores: Default::default(),
+            slice: USUAL_SLICE,
         }
+    }
+
+    /// The fresh start with a slice; None where it is outside 1 to 255, which is refused with code 16.
+    pub fn fresh_slice(slice: u32) -> Option<Kernel> {
+        (1..=LONGEST_SLICE).contains(&slice).then(|| Kernel { slice, ..Kernel::fresh() })
     }
 
     // The calls.
@@ -79,7 +90,7 @@ impl Kernel {
         let Some(new) = self.lowest_unused() else {
             return self.answer(NO_UNUSED_PROCESS, 0);
         };
-        self.processes[new] = Some(Process { class: class as usize, ticks: SLICE, hand: None });
+        self.processes[new] = Some(Process { class: class as usize, ticks: self.slice, hand: None });
         self.make_ready(new);
         self.answer(DONE, new)
     }
@@ -175,7 +186,7 @@ impl Kernel {
                 self.answer(DONE, length)
             }
             None => {
-                self.caller().ticks = SLICE;
+                self.caller().ticks = self.slice;
                 self.mailboxes[mailbox as usize].waiters.push_back(self.running);
                 self.choose();
                 self.answer(CALLER_WAITS, 0)
@@ -235,7 +246,7 @@ impl Kernel {
             self.semaphores[semaphore as usize].count -= 1;
             return self.answer(DONE, 0);
         }
-        self.caller().ticks = SLICE;
+        self.caller().ticks = self.slice;
         self.semaphores[semaphore as usize].waiters.push_back(self.running);
         self.choose();
         self.answer(CALLER_WAITS, 0)
@@ -251,7 +262,7 @@ impl Kernel {
     /// Joins the rear of its class with a whole slice; one above the running one's class runs at once,
     /// and the one that ran goes to the front of its own class with its ticks left.
     fn make_ready(&mut self, woken: usize) {
-        self.process(woken).ticks = SLICE;
+        self.process(woken).ticks = self.slice;
         let class = self.process(woken).class;
         self.ready[class].push_back(woken);
         if self.running == 0 {
@@ -264,7 +275,7 @@ impl Kernel {
     }
 
     fn caller_to_the_rear(&mut self) {
-        self.caller().ticks = SLICE;
+        self.caller().ticks = self.slice;
         let class = self.caller().class;
         self.ready[class].push_back(self.running);
         self.choose();

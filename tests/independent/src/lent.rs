@@ -1,5 +1,5 @@
 //! Calls as the board's firmware makes them: the state lies as an image in a lent area, the messages in a lent store.
-//! Here codes 14 and 15 are given. An area that is refused, and a store that isn't written, stay as they are.
+//! Here codes 14, 15 and 16 are given. An area that is refused, and a store that isn't written, stay as they are.
 
 use crate::answer::*;
 use crate::call::{Call, Told};
@@ -8,14 +8,28 @@ use crate::kernel::{Kernel, STORE_BYTES};
 use crate::listing::Row;
 
 const STATE_REFUSED: Answer = Answer { code: NOT_SOUND, number: 0, running: 0 };
+const SLICE_REFUSED: Answer = Answer { code: NO_SUCH_SLICE, number: 0, running: 0 };
 const FRESH_WRITTEN: Answer = Answer { code: DONE, number: 0, running: 0 };
 
-/// Writes a fresh image.
+/// Writes a fresh image where no slice is named.
 pub fn fresh(area: &mut [u8]) -> Answer {
+    begin(area, Some(Kernel::fresh()))
+}
+
+/// Writes a fresh image with a slice.
+pub fn fresh_slice(area: &mut [u8], slice: u32) -> Answer {
+    begin(area, Kernel::fresh_slice(slice))
+}
+
+/// What the area holds is not read, so who ran in it isn't told either.
+fn begin(area: &mut [u8], kernel: Option<Kernel>) -> Answer {
     if area.len() != IMAGE_BYTES {
         return STATE_REFUSED;
     }
-    area.copy_from_slice(&image(&Kernel::fresh()));
+    let Some(kernel) = kernel else {
+        return SLICE_REFUSED;
+    };
+    area.copy_from_slice(&image(&kernel));
     FRESH_WRITTEN
 }
 
@@ -59,10 +73,11 @@ mod tests {
     #[test]
     fn as_the_kernel_alone() {
         for seed in 0..8 {
+            let slice = 1 + 36 * seed as u32;
             let mut area = vec![0; IMAGE_BYTES];
-            fresh(&mut area);
+            fresh_slice(&mut area, slice);
             let mut store = Random::new(seed).bytes(STORE_BYTES);
-            let mut kernel = Kernel::fresh();
+            let mut kernel = Kernel::fresh_slice(slice).unwrap();
             let mut script = Script::new(seed + 8, 400);
             while let Some(line) = script.next_line() {
                 let Some(asked) = parse(&line) else { continue };
@@ -84,9 +99,13 @@ mod tests {
     #[test]
     fn states_refused() {
         let mut store = vec![7; STORE_BYTES];
-        for length in [0, 1, 442, 444] {
+        for length in [0, 1, 442, 443, 445] {
             let mut area = vec![5; length];
             assert_eq!(fresh(&mut area), STATE_REFUSED);
+            // 14 comes before 16.
+            for slice in [0, 1, 3, 255, 256, u32::MAX] {
+                assert_eq!(fresh_slice(&mut area, slice), STATE_REFUSED);
+            }
             assert_eq!(call(&mut area, &mut store, &Call::Tick), (STATE_REFUSED, None));
             assert_eq!(listing(&area, &mut [Row::default(); 32]), STATE_REFUSED);
             assert!(area.iter().all(|&byte| byte == 5));
@@ -101,13 +120,36 @@ mod tests {
     }
 
     #[test]
+    fn slices() {
+        let mut area = vec![0; IMAGE_BYTES];
+        fresh(&mut area);
+        let usual = area.clone();
+        assert_eq!(usual[443], 5);
+        // Whatever the area holds, also where 1 runs in it.
+        call(&mut area, &mut [], &Call::Create(2));
+        for content in [area, vec![0; IMAGE_BYTES], vec![255; IMAGE_BYTES]] {
+            for slice in [0, 256, 257, 511, 65_535, 65_536, 65_541, 0x8000_0005, u32::MAX] {
+                let mut area = content.clone();
+                assert_eq!(fresh_slice(&mut area, slice), Answer { code: 16, number: 0, running: 0 });
+                assert_eq!(area, content);
+            }
+            for slice in 1..=255 {
+                let mut area = content.clone();
+                assert_eq!(fresh_slice(&mut area, slice), FRESH_WRITTEN);
+                assert_eq!(area[..443], usual[..443]);
+                assert_eq!(u32::from(area[443]), slice);
+            }
+        }
+    }
+
+    #[test]
     fn questions() {
         let mut area = vec![0; IMAGE_BYTES];
         let refused = |code: u32| (Answer { code, number: 0, running: 0 }, None);
         // 14 comes before 1, and by itself.
         assert_eq!(call(&mut area, &mut [], &Call::Why(32)), refused(NOT_SOUND));
         assert_eq!(call(&mut area, &mut [], &Call::Why(31)), refused(NOT_SOUND));
-        assert_eq!(call(&mut area[..442], &mut [], &Call::Why(32)), refused(NOT_SOUND));
+        assert_eq!(call(&mut area[..443], &mut [], &Call::Why(32)), refused(NOT_SOUND));
         fresh(&mut area);
         assert_eq!(call(&mut area, &mut [], &Call::Why(32)), refused(NO_SUCH_PROCESS));
         call(&mut area, &mut [], &Call::Create(2));

@@ -92,7 +92,7 @@ mod tests {
 
     #[test]
     fn every_place() {
-        let mut kernel = Kernel::fresh();
+        let mut kernel = Kernel::fresh_slice(3).unwrap();
         kernel.create(4);
         kernel.receive(9); // 1 waits at mailbox 9
         kernel.create(3);

@@ -70,7 +70,7 @@ mod tests {
 
     #[test]
     fn every_place_and_hand() {
-        let mut kernel = Kernel::fresh();
+        let mut kernel = Kernel::fresh_slice(3).unwrap();
         kernel.create(4);
         kernel.receive(9); // 1 waits at mailbox 9
         kernel.create(3);
@@ -98,6 +98,25 @@ mod tests {
             "",
         ];
         assert_eq!(page(&kernel), lines.join("\n"));
+    }
+
+    #[test]
+    fn ticks_of_other_slices() {
+        for (slice, ticks) in [(1, "1  "), (5, "4  "), (255, "254")] {
+            let mut kernel = Kernel::fresh_slice(slice).unwrap();
+            kernel.create(2);
+            kernel.create(2);
+            kernel.wait(15); // 1 waits, 2 runs
+            kernel.tick();
+            let lines = [
+                "Process  Stands                        Class  Ticks left  In hand".to_string(),
+                "0        stands by                     0      0           nothing".to_string(),
+                format!("1        at semaphore 15, first        2      {slice:<3}         nothing"),
+                format!("2        runs                          2      {ticks}         nothing"),
+                "29 processes are unused.\n".to_string(),
+            ];
+            assert_eq!(page(&kernel), lines.join("\n"));
+        }
     }
 
     #[test]

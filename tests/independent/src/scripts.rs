@@ -2,11 +2,12 @@
 //!
 //! Calls drawn blindly rarely fill a mailbox or gather waiters. So the kernel runs alongside, and each line is drawn
 //! from wishes that look at its state, such as "receive where there is a message". The seed chooses the style: its
-//! phases, each a list of wishes with weights, take turns.
+//! phases, each a list of wishes with weights, take turns. It also chooses how the script begins, where a slice is named.
 
 use crate::call::Call;
-use crate::grammar::{line_of, parse};
-use crate::junk::{giant_line, junk_line, junk_question};
+use crate::desk::Desk;
+use crate::grammar::{line_of, LINE_BYTES};
+use crate::junk::{giant_line, junk_line, junk_question, near_slice};
 use crate::kernel::*;
 use crate::random::Random;
 use std::io::{self, Write};
@@ -161,10 +162,66 @@ const FLOODED: u64 = 8;
 /// One in so many scripts of the junk style has a giant line.
 const WITH_GIANT: u64 = 3;
 
-/// The lines of a script one after the other, and the kernel as it is after the last one.
+/// How many ways to begin there are. The seed chooses one: among 16 seeds in a row, from a multiple of 8 on, each comes
+/// once, and a style meets all of them in 16 turns.
+const BEGINNINGS: u64 = 16;
+
+/// How a seed's script begins: a slice is named, or not, in all the ways that there are.
+fn beginning(seed: u64) -> Vec<Vec<u8>> {
+    let styles = STYLES.len() as u64;
+    let (turn, round) = (seed / styles, seed / BEGINNINGS);
+    let lines = |lines: &[&str]| lines.iter().map(|line| line.as_bytes().to_vec()).collect();
+    match (2 * (seed % styles) + turn) % BEGINNINGS {
+        0 => vec![],
+        1 => lines(&["slice 3"]),
+        2 => lines(&["slice 1"]),
+        3 => lines(&["slice 2"]),
+        4 => lines(&["slice 5"]),
+        5 => lines(&["slice 255"]),
+        6 => lines(&[&format!("slice {}", 6 + round % 249)]),
+        7 => lines(&["slice 0"]),
+        8 => lines(&["slice 256"]),
+        9 => lines(&["slice 65535"]),
+        10 => lines(&["slice 65536", "slice 3"]),
+        11 => lines(&["slice 03", "slice 3"]),
+        12 => vec![near_slice(round)],
+        13 => lines(&["slice 4", "slice 2"]),
+        14 => lines(&["slice 0", "slice 3"]),
+        _ => vec![other_first_line(round), b"slice 3".to_vec()],
+    }
+}
+
+/// The beginning of a seed's script, and two processes that take turns until one has used up the slice that holds then:
+/// drawn lines do that rarely, or never where it is long. Nothing of that where no line stands at the beginning.
+fn opening(seed: u64) -> Vec<Vec<u8>> {
+    let mut lines = beginning(seed);
+    let mut desk = Desk::fresh();
+    for line in &lines {
+        desk.answer(line);
+    }
+    let ticks = (0..desk.kernel().slice).map(|_| Call::Tick);
+    let calls = [Call::Create(2), Call::Create(2)].into_iter().chain(ticks);
+    if !lines.is_empty() {
+        lines.extend(calls.map(|call| line_of(&call).into_bytes()));
+    }
+    lines
+}
+
+fn other_first_line(number: u64) -> Vec<u8> {
+    match number % 4 {
+        0 => b"tick".to_vec(),
+        1 => b"".to_vec(),
+        2 => b"why 0".to_vec(),
+        _ => vec![b'x'; LINE_BYTES + 1],
+    }
+}
+
+/// The lines of a script one after the other, and the desk as it is after the last one. Those of the opening come on top
+/// of the lines that are asked for.
 pub struct Script {
     random: Random,
-    kernel: Kernel,
+    desk: Desk,
+    opening: std::vec::IntoIter<Vec<u8>>,
     style: &'static Style,
     phase: Phase,
     phase_left: usize,
@@ -188,7 +245,8 @@ impl Script {
             favourite: random.below(SEMAPHORES) as u32,
             open_end: random.one_in(4),
             random,
-            kernel: Kernel::fresh(),
+            desk: Desk::fresh(),
+            opening: opening(seed).into_iter(),
             style,
             phase: style.phases[0],
             phase_left: 0,
@@ -204,25 +262,30 @@ impl Script {
 
     /// The state after the lines given so far.
     pub fn kernel(&self) -> &Kernel {
-        &self.kernel
+        self.desk.kernel()
     }
 
     /// The next line, without newline.
     pub fn next_line(&mut self) -> Option<Vec<u8>> {
-        self.flooding = self.flooding && self.kernel.semaphores[self.favourite as usize].count < COUNT_LIMIT;
-        let aside = self.lines_left > 200 && self.random.one_in(500);
-        let line = if self.flooding && !aside {
-            line_of(&Call::Signal(self.favourite)).into_bytes()
-        } else if self.lines_left == 0 {
-            return None;
-        } else {
-            let line = self.drawn_line();
-            self.lines_left -= 1;
-            line
+        let line = match self.opening.next() {
+            Some(line) => line,
+            None => self.line_after_the_opening()?,
         };
-        if let Some(call) = parse(&line) {
-            self.kernel.apply(&call);
+        self.desk.answer(&line);
+        Some(line)
+    }
+
+    fn line_after_the_opening(&mut self) -> Option<Vec<u8>> {
+        self.flooding = self.flooding && self.kernel().semaphores[self.favourite as usize].count < COUNT_LIMIT;
+        let aside = self.lines_left > 200 && self.random.one_in(500);
+        if self.flooding && !aside {
+            return Some(line_of(&Call::Signal(self.favourite)).into_bytes());
         }
+        if self.lines_left == 0 {
+            return None;
+        }
+        let line = self.drawn_line();
+        self.lines_left -= 1;
         Some(line)
     }
 
@@ -245,7 +308,7 @@ impl Script {
     }
 
     fn wished(&mut self, wish: Wish) -> Option<Call> {
-        let kernel = &self.kernel;
+        let kernel = self.desk.kernel();
         let random = &mut self.random;
         let running_class = kernel.processes[kernel.running].as_ref().map_or(0, |process| process.class);
         let hand_length = kernel.hand_of(kernel.running).map(|message| message.bytes.len());
@@ -328,8 +391,8 @@ impl Script {
 const QUESTIONS: usize = 8;
 const JUNK_QUESTIONS: usize = 40;
 
-/// A script with questions between its lines, on top of their number. They move nothing and are drawn apart, so that the
-/// lines around them are the same without them.
+/// A script with questions between its lines, on top of their number. They move nothing, are drawn apart and come after
+/// the first line, so that the lines around them are the same without them.
 pub struct Questioned {
     script: Script,
     random: Random,
@@ -346,7 +409,7 @@ impl Questioned {
 
     /// The next line, without newline.
     pub fn next_line(&mut self) -> Option<Vec<u8>> {
-        if self.random.one_in(QUESTIONS) {
+        if self.script.desk.has_begun() && self.random.one_in(QUESTIONS) {
             return Some(question(&mut self.random, self.script.kernel()));
         }
         self.script.next_line()

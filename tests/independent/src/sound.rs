@@ -1,4 +1,4 @@
-//! Which states are sound: "Where everything stands" of document 01, sentence by sentence.
+//! Which states are sound: "Where everything stands" of document 01, sentence by sentence, with the slice of document 02.
 
 use crate::kernel::*;
 
@@ -33,15 +33,18 @@ fn the_right_one_runs(kernel: &Kernel) -> bool {
     }
 }
 
-/// Classes are 0 to 4. Ticks left are 1 to 3 for the running and the ready, 3 for a waiter. Counts are 0 to 65,535.
+/// The slice is 1 to 255. Classes are 0 to 4. Ticks left are 1 to the slice for the running and the ready, the slice for a
+/// waiter. Counts are 0 to 65,535.
 fn numbers_are_right(kernel: &Kernel) -> bool {
     let is_waiter = |number: usize| waiters_at_mailboxes(kernel).chain(waiters_at_semaphores(kernel)).any(|queue| queue.contains(&number));
     let block_is_right = |number: usize| match &kernel.processes[number] {
         None => true,
-        Some(process) if is_waiter(number) => process.class < CLASSES && process.ticks == SLICE,
-        Some(process) => process.class < CLASSES && (1..=SLICE).contains(&process.ticks),
+        Some(process) if is_waiter(number) => process.class < CLASSES && process.ticks == kernel.slice,
+        Some(process) => process.class < CLASSES && (1..=kernel.slice).contains(&process.ticks),
     };
-    (1..PROCESSES).all(block_is_right) && kernel.semaphores.iter().all(|semaphore| semaphore.count <= COUNT_LIMIT)
+    (1..=LONGEST_SLICE).contains(&kernel.slice)
+        && (1..PROCESSES).all(block_is_right)
+        && kernel.semaphores.iter().all(|semaphore| semaphore.count <= COUNT_LIMIT)
 }
 
 /// Each buffer is free, queued in one mailbox, or in the hand of one process, none twice. Mailbox waiters have empty

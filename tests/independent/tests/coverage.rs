@@ -1,4 +1,5 @@
-//! The random scripts reach every code, every kind of reason and every deep state, with fixed seeds; and each seed gives one script.
+//! The random scripts name a slice in every way, and reach every code, every kind of reason and every deep state, with fixed
+//! seeds; and each seed gives one script.
 
 use independent::coverage::Coverage;
 use independent::scripts::{script, Questioned, Script};
@@ -22,10 +23,11 @@ fn a_seed_gives_one_script() {
 #[test]
 fn as_many_lines_as_asked_for() {
     // Seeds 5 and 69 drive a count to its limit on top of their lines.
+    let count = |mut script: Script| std::iter::from_fn(|| script.next_line()).count();
     for seed in (0..100).filter(|seed| ![5, 69].contains(seed)) {
-        let mut lines = Script::new(seed, 50);
-        let count = std::iter::from_fn(|| lines.next_line()).count();
-        assert_eq!(count, 50, "seed {seed}");
+        // The first lines, which may name a slice, come on top.
+        let first_lines = count(Script::new(seed, 0));
+        assert_eq!(count(Script::new(seed, 50)), first_lines + 50, "seed {seed}");
     }
     assert!(script(5, 50).len() > 65_535 * "signal 0\n".len());
 }
@@ -46,6 +48,45 @@ fn every_kind_of_reason_is_wanted() {
     assert!(nothing.contains(&"a refused question".to_string()), "{nothing:?}");
 }
 
+/// Of the 16 ways to begin a script, each comes 8 times in 128 seeds.
+#[test]
+fn slices_are_named_in_known_proportions() {
+    let mut all = Coverage::default();
+    (0..128).for_each(|seed| all.add(seed, 1));
+    let times = |line: &str| all.first_lines.get(line).copied().unwrap_or(0);
+    // Beside the scripts that name none are those whose second line would.
+    assert_eq!(times("another"), 8 + 8);
+    assert_eq!(times("slice 0"), 8 + 8);
+    for line in ["slice 1", "slice 2", "slice 3", "slice 4", "slice 5", "slice 255", "slice 256", "slice 65535", "slice 65536", "slice 03"] {
+        assert_eq!(times(line), 8, "{line}");
+    }
+    // Each time another slice that is longer than the usual one, or another line that nearly names one.
+    assert!((6..=13).all(|slice| times(&format!("slice {slice}")) == 1));
+    assert!(["slice", "slice ", "slice -", "slice 00", "slice 3 3"].iter().all(|line| times(line) == 1));
+}
+
+#[test]
+fn every_slice_is_wanted() {
+    let nothing = Coverage::default().missing();
+    for what in [
+        "code 16",
+        "a script with the first line: another",
+        "a script with the first line: slice 1",
+        "a script with the first line: slice 255",
+        "a script with the first line: slice 0",
+        "a script with the first line: slice 65536",
+        "a script with the first line: slice 03",
+        "a slice named later, after a slice",
+        "a slice named later, after a refused slice",
+        "a slice named later, after a call",
+        "a slice named later, after a bad line",
+        "a slice of 5 used up",
+        "a slice of 255 used up",
+    ] {
+        assert!(nothing.contains(&what.to_string()), "{what}: {nothing:?}");
+    }
+}
+
 #[test]
 fn questions_come_on_top() {
     // Seed 5 drives a count to its limit on top of its lines.
@@ -53,15 +94,16 @@ fn questions_come_on_top() {
         let mut plain = Script::new(seed, 300);
         let mut with_questions = Questioned::new(seed, 300);
         let mut next = plain.next_line();
-        let mut questions = 0;
+        let (mut lines, mut questions) = (0, 0);
         while let Some(line) = with_questions.next_line() {
             if next.as_ref() == Some(&line) {
                 next = plain.next_line();
+                lines += 1;
             } else {
                 questions += 1;
             }
         }
         assert_eq!(next, None, "seed {seed}: the lines of the script, in order");
-        assert!((15..80).contains(&questions), "seed {seed}: {questions} questions");
+        assert!((lines / 20..lines / 4).contains(&questions), "seed {seed}: {questions} questions between {lines} lines");
     }
 }

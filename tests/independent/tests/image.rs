@@ -32,13 +32,22 @@ fn fresh_image() {
     expected.extend([0; 64]);
     expected.extend([0xff, 0xff, 0xff, 0xff]);
     expected.extend([0; 32]);
+    expected.push(5);
     assert_eq!(area[..], expected[..]);
     assert_eq!(decide(&area), Some(Kernel::fresh()));
+    for slice in [1, 3, 4, 200, 255] {
+        expected[443] = slice;
+        let kernel = Kernel::fresh_slice(slice.into());
+        assert_eq!(kernel.as_ref().map(|kernel| image(kernel).to_vec()), Some(expected.clone()));
+        assert_eq!(decide(&expected), kernel);
+    }
+    expected[443] = 0;
+    assert_eq!(decide(&expected), None);
 }
 
-/// Of class 2, processes 4 and then 7 are ready, and nobody else is; 1 runs.
+/// Of class 2, processes 4 and then 7 are ready, and nobody else is; 1 runs. A slice has 3 ticks.
 fn example() -> Kernel {
-    let mut kernel = Kernel::fresh();
+    let mut kernel = Kernel::fresh_slice(3).unwrap();
     (1..=7).for_each(|_| assert_eq!(kernel.create(2).code, 0));
     [2, 3, 5, 6].into_iter().for_each(|process| assert_eq!(kernel.stop(process).code, 0));
     kernel
@@ -53,6 +62,7 @@ fn example_of_the_page() {
     assert_eq!(area[207..211], [0b0110_1100, 0xff, 0xff, 0xff]);
     assert_eq!([area[0], area[1 + 1], area[1 + 4], area[1 + 7], area[1 + 2]], [1, 2, 2, 2, 0]);
     assert_eq!([area[33 + 1], area[33 + 4], area[33 + 7], area[33 + 2]], [3, 3, 3, 0]);
+    assert_eq!(area[443], 3);
     assert_eq!(decide(&area), Some(example()));
 }
 
@@ -100,10 +110,11 @@ fn there_and_back() {
 fn other_lengths() {
     let area = image(&Kernel::fresh());
     assert_eq!(decide(&[]), None);
+    assert_eq!(decide(&area[..443]), None);
     assert_eq!(decide(&area[..442]), None);
     assert_eq!(decide(&[&area[..], &[0]].concat()), None);
-    assert_eq!(decide(&[0; 443]), None);
-    assert_eq!(decide(&[255; 443]), None);
+    assert_eq!(decide(&[0; 444]), None);
+    assert_eq!(decide(&[255; 444]), None);
 }
 
 /// Whether an area stays an image of a sound state when one byte of it changes, by the meaning of that byte alone.
@@ -121,8 +132,8 @@ fn stays_sound(kernel: &Kernel, area: &[u8], place: usize, byte: u8) -> bool {
             _ => false,
         },
         33..=64 => match kernel.row(place - 33).place {
-            RUNNING if place - 33 != 0 => (1..=3).contains(&byte),
-            READY => (1..=3).contains(&byte),
+            RUNNING if place - 33 != 0 => (1..=kernel.slice).contains(&byte.into()),
+            READY => (1..=kernel.slice).contains(&byte.into()),
             _ => false,
         },
         339..=342 => {
@@ -138,6 +149,13 @@ fn stays_sound(kernel: &Kernel, area: &[u8], place: usize, byte: u8) -> bool {
             kernel.held().any(|message| message.buffer == buffer) && two(343, buffer) <= 512
         }
         411..=442 => kernel.semaphores[(place - 411) / 2].waiters.is_empty(),
+        443 => {
+            let fits = |process: usize| match kernel.row(process) {
+                row if [AT_MAILBOX, AT_SEMAPHORE].contains(&row.place) => false,
+                row => row.ticks <= byte.into(),
+            };
+            byte != 0 && (0..PROCESSES).all(fits)
+        }
         _ => false,
     }
 }
@@ -160,10 +178,10 @@ fn every_change_of_one_byte() {
     assert!(still_sound > 10_000);
 }
 
-/// A state with someone in every kind of place. 1 waits at mailbox 9, 2 at semaphore 15 with buffer 0 in hand, 3 behind 1,
+/// A state with someone in every kind of place, and a slice of 3 ticks. 1 waits at mailbox 9, 2 at semaphore 15 with buffer 0 in hand, 3 behind 1,
 /// 4 runs with buffer 1 in hand in class 2, 5 and 6 are ready in class 1, 7 in class 0; buffers 2 and 3 are in mailbox 0.
 fn busy() -> Kernel {
-    let mut kernel = Kernel::fresh();
+    let mut kernel = Kernel::fresh_slice(3).unwrap();
     kernel.create(4);
     kernel.receive(9);
     kernel.create(3);
@@ -220,6 +238,17 @@ fn every_line_of_where_everything_stands() {
     // Ticks and classes.
     for (process, ticks, sound) in [(4, 1, true), (4, 0, false), (4, 4, false), (5, 1, true), (6, 2, true), (6, 0, false), (7, 4, false)] {
         assert_eq!(damaged(|kernel| block(kernel, process).ticks = ticks), sound);
+    }
+    for slice in [0, 1, 2, 4, 255, 256] {
+        assert!(!damaged(|kernel| kernel.slice = slice));
+    }
+    // 1, 2 and 3 wait; 4 has 2 ticks left, 5, 6 and 7 have 3.
+    for (slice, sound) in [(2, false), (3, true), (4, true), (255, true), (256, false)] {
+        let retuned = |kernel: &mut Kernel| {
+            kernel.slice = slice;
+            (1..=3).for_each(|waiter| block(kernel, waiter).ticks = slice);
+        };
+        assert_eq!(damaged(retuned), sound);
     }
     for waiter in 1..=3 {
         assert!(!damaged(|kernel| block(kernel, waiter).ticks = 2));
@@ -289,6 +318,17 @@ fn bytes_by_hand() {
     for (process, sound) in [(5, true), (7, true), (1, false), (3, false), (0, false), (31, false)] {
         assert_eq!(rewritten(&[&full(process)[..], &[bits(process)]].concat()), sound, "hand of {process}");
     }
+    // The slice: none, or another than the waiters 1, 2 and 3 have, or fewer ticks than 5, 6 and 7 have left.
+    assert!(!rewritten(&[(443, 0)]));
+    assert!(!rewritten(&[(443, 2)]));
+    assert!(!rewritten(&[(443, 4)]));
+    let waiters = |ticks: u8| [(33 + 1, ticks), (33 + 2, ticks), (33 + 3, ticks)];
+    let ready = |ticks: u8| [(33 + 5, ticks), (33 + 6, ticks), (33 + 7, ticks)];
+    assert!(rewritten(&[&waiters(4)[..], &[(443, 4)]].concat()));
+    assert!(rewritten(&[&waiters(255)[..], &ready(254), &[(443, 255)]].concat()));
+    assert!(!rewritten(&[&waiters(2)[..], &[(443, 2)]].concat()));
+    assert!(rewritten(&[&waiters(2)[..], &ready(2), &[(443, 2)]].concat()));
+    assert!(!rewritten(&[&waiters(0)[..], &ready(0), &[(443, 0)]].concat()));
     // Bits that disagree with the places.
     assert!(!rewritten(&[(203, 0b1)]));
     assert!(!rewritten(&[(203, 0b111)]));

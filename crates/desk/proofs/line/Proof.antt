@@ -1,8 +1,6 @@
 -- `desk::line` meets its contract. Each return is the turn of the order that the request's word means.
 -- Assumes nothing.
 use borrow.Author.Needs.{needs}
-use Rattle.answers.specs.Answer.{bad}
-use Rattle.desk.specs.Line.{Answered}
 use Rattle.desk.proofs.Turns.{quietly, as-line}
 use Rattle.desk.proofs.line.Statement.{statement}
 use Rattle.desk.proofs.line.Tie as tie
@@ -14,10 +12,10 @@ read-requires : tie.Need-read-requires
 read-requires c κs = c .before .before .before .before .before .request .ensures .room _ (c .before .before .before .word3 .given .1)
 
 returns : tie.Need-returns
-returns c = as-line (c .before .before .before .before .before .before .request .ensures) (c .before .before .before .before .enum-told .given .1) (record { text = bad; answered = Answered.bad; written = c .before .before .put-bad .ensures })
+returns c = as-line (c .before .before .before .before .before .before .request .ensures) (c .before .before .before .before .enum-told .given .1) (c .before .before .bad .ensures _)
 
 returns-2 : tie.Need-returns-2
-returns-2 c = as-line (c .before .before .before .before .before .before .before .before .request .ensures) (c .before .before .before .before .before .before .word .given .1) (quietly _ (c .before .before .before .before .before .before .word .given .0 .0) (c .before .before .before .before .called .ensures) (c .before .before .tell .ensures))
+returns-2 c = as-line (c .before .before .before .before .before .before .before .before .before .request .ensures) (c .before .before .before .before .before .before .before .word .given .1) (quietly _ (c .before .before .before .before .before .before .before .word .given .0 .0) (c .before .before .before .before .called .ensures) (c .before .before .tell .ensures))
 
 returns-3 : tie.Need-returns-3
 returns-3 c = as-line (c .before .before .before .before .before .before .before .before .before .before .request .ensures) (c .before .before .before .before .before .before .before .before .word2 .given .1) (c .before .before .before .before .send .ensures)
@@ -27,6 +25,9 @@ returns-4 c = as-line (c .before .before .before .before .before .before .before
 
 returns-5 : tie.Need-returns-5
 returns-5 c = as-line (c .before .before .before .before .before .before .before .request .ensures) (c .before .before .before .before .before .word4 .given .1) (c .before .before .why .ensures _)
+
+returns-6 : tie.Need-returns-6
+returns-6 c = as-line (c .before .before .before .before .before .before .before .request .ensures) (c .before .before .before .before .before .word5 .given .1) (c .before .before .start .ensures _)
 
 pub line-spec : {M : Type 1} → statement M
 line-spec =
@@ -38,8 +39,10 @@ line-spec =
     (λ c. search needs) send-requires
     (λ c. search needs) read-requires
     (λ c. search needs) (λ c κs. search needs)
+    (λ c. search needs) (λ c κs. search needs)
     (λ c. search needs) returns
     (λ c. search needs) returns-2
     (λ c. search needs) (λ c. search needs) returns-3
     (λ c. search needs) (λ c. search needs) returns-4
-    (λ c. search needs) returns-5)
+    (λ c. search needs) returns-5
+    (λ c. search needs) returns-6)

@@ -11,10 +11,10 @@ use Rattle.desk.proofs.send.Statement.{statement}
 use Rattle.desk.proofs.send.Tie as tie
 
 array-share-prefix-bytes : tie.Need-array-share-prefix-bytes
-array-share-prefix-bytes c = let size : length (c .before .before .before .before .before .args .q .bytes) ≡ mostBytes = search needs in omega arith
+array-share-prefix-bytes c = let size : length (c .before .before .before .before .before .before .args .q .bytes) ≡ mostBytes = search needs in omega arith
 
 slice-aggregate-send : tie.Need-slice-aggregate-send
-slice-aggregate-send c = let size : length (c .before .before .before .before .before .before .args .q .bytes) ≡ mostBytes = search needs in sym (length-take-le _ _ (omega arith))
+slice-aggregate-send c = let size : length (c .before .before .before .before .before .before .before .args .q .bytes) ≡ mostBytes = search needs in sym (length-take-le _ _ (omega arith))
 
 returns : tie.Need-returns
 returns c = sent _ (c .before .before .before .before .before .before .send .ensures) (c .before .before .tell .ensures)

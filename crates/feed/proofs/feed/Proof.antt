@@ -17,7 +17,7 @@ use Rattle.feed.proofs.feed.Tie as tie
 abbrev Inv-loop : tie.InvT-loop
 Inv-loop store₀ line₀ chunk out₀ t₀ held₀ used₀ store line out t held used =
     ((length store ≡ length store₀) × (length out ≡ length out₀) × (used ≤ length chunk) × (t .length ≤ length out₀) × (held ≤ overLong) × (used ≡ 0 → t .length ≡ 0))
-    × ((p : List ℕ) → HoldsLine p line₀ held₀ → Going p chunk out₀ (t₀ .state) store₀ t held used store line out)
+    × ((p : List ℕ) → HoldsLine p line₀ held₀ → Going p chunk out₀ (t₀ .desk) store₀ t held used store line out)
 
 abbrev μ-loop : tie.MeasureT-loop
 μ-loop store₀ line₀ chunk out₀ t₀ held₀ used₀ store line out t held used = length chunk - used

@@ -9,16 +9,16 @@ use Rattle.feed.proofs.BufferLaws.{over-is-bad, in-buffer, written-shor
 use Rattle.feed.proofs.text.Statement.{statement}
 use Rattle.feed.proofs.text.Tie as tie
 
-put-bad-requires : tie.Need-put-bad-requires
-put-bad-requires c κs = search needs
+bad-requires : tie.Need-bad-requires
+bad-requires c κs = search needs
 
 same-length : tie.Need-same-length
 same-length c = search needs
 
 returns : tie.Need-returns
 returns c =
-    let w = c .before .before .put-bad .ensures in
-    (written-short w (omega arith), λ l h. over-is-bad (omega arith) h w)
+    let turned = c .before .before .bad .ensures (c .before .before .before .before .before .before .before .before .args .store .now) in
+    (written-short (turned .written) (answered-short (turned .answered)), λ l h. over-is-bad (omega arith) h turned)
 
 slice-aggregate-line : tie.Need-slice-aggregate-line
 slice-aggregate-line c = sym (length-take-le _ _ (search needs))
@@ -38,4 +38,4 @@ returns-2 c =
     (written-short (turned .written) (answered-short (turned .answered)), λ l h. rw (in-buffer (omega arith) h) at turned)
 
 pub text-spec : {M : Type 1} → statement M
-text-spec = tie.close (tie.spec put-bad-requires same-length returns slice-aggregate-line line-requires same-length-2 same-length-3 returns-2)
+text-spec = tie.close (tie.spec bad-requires same-length returns slice-aggregate-line line-requires same-length-2 same-length-3 returns-2)

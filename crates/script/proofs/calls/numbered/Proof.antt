@@ -35,6 +35,9 @@ past7 c = rw (past6 (c .before .before .before), sym (c .before .is-word7 .ensur
 past8 : (c : tie.Else8) → Past 8 (c .before .before .before .before .before .before .before .before .before .before .before .before .before .before .before .before .before .before .before .before .before .before .before .before)
 past8 c = rw (past7 (c .before .before .before), sym (c .before .is-word8 .ensures) ∙ c .if8 .left)
 
+past9 : (c : tie.Else9) → Past 9 (c .before .before .before .before .before .before .before .before .before .before .before .before .before .before .before .before .before .before .before .before .before .before .before .before .before .before .before)
+past9 c = rw (past8 (c .before .before .before), sym (c .before .is-word9 .ensures) ∙ c .if9 .left)
+
 returns : tie.Need-returns
 returns c = rw (sym (c .before .is-word .ensures) ∙ c .if1 .taken)
 
@@ -60,7 +63,10 @@ returns-8 : tie.Need-returns-8
 returns-8 c = rw (past7 (c .before .before .before), sym (c .before .is-word8 .ensures) ∙ c .if8 .taken)
 
 returns-9 : tie.Need-returns-9
-returns-9 c = rw (past8 c)
+returns-9 c = rw (past8 (c .before .before .before), sym (c .before .is-word9 .ensures) ∙ c .if9 .taken)
+
+returns-10 : tie.Need-returns-10
+returns-10 c = rw (past9 c)
 
 pub numbered-spec : {M : Type 1} → statement M
 numbered-spec =
@@ -74,4 +80,5 @@ numbered-spec =
     (λ c. search needs) (λ c κs. search needs) returns-6
     (λ c. search needs) (λ c κs. search needs) returns-7
     (λ c. search needs) (λ c κs. search needs) returns-8
-    returns-9)
+    (λ c. search needs) (λ c κs. search needs) returns-9
+    returns-10)

@@ -1,6 +1,6 @@
 //! Areas that may or may not hold a sound state.
 
-use independent::image::{image, IMAGE_BYTES};
+use independent::image::{image, IMAGE_BYTES, SLICE};
 use independent::kernel::*;
 use independent::random::Random;
 
@@ -49,11 +49,12 @@ pub fn damaged(images: &[Vec<u8>], random: &mut Random) -> Vec<u8> {
     let mut area = images[random.below(images.len())].clone();
     for _ in 0..random.between(1, 4) {
         let (at, other) = (random.below(area.len()), random.below(area.len()));
-        match random.below(5) {
+        match random.below(6) {
             0 => area[at] = random.next() as u8,
             1 => area[at] = random.below(70) as u8,
             2 => area[at] ^= 1 << random.below(8),
             3 => area.swap(at, other),
+            4 => area[SLICE] = random.below(8) as u8,
             _ => {
                 let from = &images[random.below(images.len())];
                 let end = (at + random.between(1, 70)).min(area.len());
@@ -101,7 +102,7 @@ fn displace(kernel: &mut Kernel, random: &mut Random) {
     let (mailbox, other) = (random.below(MAILBOXES), random.below(MAILBOXES));
     let class = random.below(CLASSES);
     let queued = kernel.mailboxes[other].messages.pop_back();
-    match random.below(16) {
+    match random.below(17) {
         0 => kernel.ready[class].push_back(kernel.running),
         1 => kernel.mailboxes[mailbox].waiters.push_back(kernel.running),
         2 => kernel.semaphores[mailbox].waiters.push_front(kernel.running),
@@ -111,7 +112,7 @@ fn displace(kernel: &mut Kernel, random: &mut Random) {
             kernel.ready[class].push_back(ran);
         }
         5 => kernel.processes[number] = None,
-        6 => kernel.processes[number] = Some(Process { class, ticks: SLICE, hand: queued.clone() }),
+        6 => kernel.processes[number] = Some(Process { class, ticks: kernel.slice, hand: queued.clone() }),
         7 => crowd(kernel, mailbox),
         8 => kernel.semaphores[mailbox].count = 1,
         9 => {
@@ -127,10 +128,11 @@ fn displace(kernel: &mut Kernel, random: &mut Random) {
             kernel.ready[random.below(CLASSES)].extend(next);
         }
         12 => kernel.mailboxes[mailbox].messages.extend(queued.clone()),
+        13 => kernel.slice = random.below(8) as u32,
         _ => {
             let Some(process) = &mut kernel.processes[number] else { return };
             match random.below(4) {
-                0 => process.ticks = random.below(5) as u32,
+                0 => process.ticks = random.below(kernel.slice as usize + 2) as u32,
                 1 => process.class = random.below(CLASSES + 1),
                 2 => process.hand = queued.clone(),
                 _ => process.hand = Some(Message { buffer: random.below(BUFFERS), bytes: vec![0; random.between(0, 513)] }),

@@ -5,6 +5,7 @@ use independent::call::{Call, Told};
 use independent::grammar::line_of;
 use independent::image::{image, IMAGE_BYTES};
 use independent::kernel::{Kernel, BUFFER_BYTES, PROCESSES};
+use independent::lent;
 use independent::listing::Row;
 use independent::why::KINDS;
 use std::collections::BTreeMap;
@@ -15,8 +16,10 @@ use std::process::{Child, ChildStdin, ChildStdout, Command, Stdio};
 const PUT: u8 = 100;
 const FLUSH: u8 = 101;
 const REPLY: u8 = 0xc5;
+const FRESH: u8 = 0;
 const LISTING: u8 = 13;
 const WHY: u8 = 14;
+const FRESH_SLICE: u8 = 15;
 const ROOM_BYTE: u8 = 0x5c;
 const ROW_BYTE: u8 = 0xee;
 
@@ -83,10 +86,19 @@ impl Batch {
         self.request.extend(message);
     }
 
-    pub fn fresh(&mut self) {
-        self.request(0, 0, 0, &[]);
-        let answer = Answer { code: DONE, number: 0, running: 0 };
-        self.expect("fresh".to_string(), answer, image(&Kernel::fresh()).to_vec(), (0, vec![]), vec![]);
+    /// A fresh start on an area that is told to be so long, with a slice or where none is named; gives the area as it is then.
+    pub fn fresh(&mut self, area: &[u8], told: usize, slice: Option<u32>) -> Vec<u8> {
+        self.put(area);
+        self.request(slice.map_or(FRESH, |_| FRESH_SLICE), slice.unwrap_or(0), told, &[]);
+        let mut lent = area.to_vec();
+        lent.resize(told, 0);
+        let answer = match slice {
+            Some(slice) => lent::fresh_slice(&mut lent, slice),
+            None => lent::fresh(&mut lent),
+        };
+        let after = if answer.code == DONE { lent } else { area.to_vec() };
+        self.expect(format!("fresh, {told} bytes, slice {slice:?}"), answer, after.clone(), (0, vec![]), vec![]);
+        after
     }
 
     fn expect(&mut self, call: String, answer: Answer, state: Vec<u8>, store_change: (usize, Vec<u8>), lent: Vec<u8>) {
@@ -305,7 +317,7 @@ impl Reply {
             found.push(format!("answered {:?}, not {:?}", self.answer, expected.answer));
         }
         if self.wrong != 0 {
-            found.push(format!("bytes outside an area changed, or the message did: {:#x}", self.wrong));
+            found.push(format!("bytes changed that must not: {:#x}, by tests/board/driver.c", self.wrong));
         }
         if let Some(at) = self.state.iter().zip(&expected.state).position(|(one, other)| one != other) {
             found.push(format!("byte {at} of the state is {}, not {}", self.state[at], expected.state[at]));

@@ -8,9 +8,9 @@ mod driver;
 use areas::{damaged, every_bit_flipped, every_byte_changed, out_of_place, random_bytes};
 use driver::{Batch, Board};
 use independent::call::Call;
-use independent::grammar::parse;
-use independent::image::{decide, field_of, image, take_bytes};
-use independent::kernel::{Kernel, BUFFER_BYTES, PROCESSES, STORE_BYTES};
+use independent::grammar::{named_slice, parse};
+use independent::image::{decide, field_of, image, take_bytes, IMAGE_BYTES};
+use independent::kernel::{Kernel, BUFFER_BYTES, LONGEST_SLICE, PROCESSES, STORE_BYTES};
 use independent::random::Random;
 use independent::scripts::Script;
 use std::io;
@@ -19,7 +19,8 @@ use std::time::{SystemTime, UNIX_EPOCH};
 const FIXED_SEEDS: u64 = 64;
 const SEEDS_A_DAY: u64 = 8;
 const CALLS_A_SEED: u64 = 2_000;
-/// Every so many sequences, the image that it leads to has every byte changed and every bit flipped in turn: eight, of all styles.
+/// Every so many sequences, the image that it leads to has every byte changed and every bit flipped in turn: eight, of all
+/// styles. So has the fresh one.
 const EVERY: usize = 9;
 const DAMAGED: usize = 20_000;
 const OUT_OF_PLACE: usize = 20_000;
@@ -31,6 +32,15 @@ const TABLES: [usize; 7] = [0, 1, PROCESSES - 1, PROCESSES, PROCESSES + 1, PROCE
 const ROWS: usize = PROCESSES + 2;
 /// Numbers of processes that there are not, some of which another width would take for others.
 const BEYOND: [u32; 8] = [32, 33, 255, 256, 287, 65_536, 0x8000_0000, u32::MAX];
+
+/// Slices that there are not, some of which another width would take for others.
+const REFUSED_SLICES: [u32; 11] = [0, 256, 257, 259, 511, 65_535, 65_536, 65_541, 0x8000_0003, 0xffff_ff05, u32::MAX];
+/// Slices that are used up, tick by tick.
+const USED_UP: [u32; 12] = [1, 2, 3, 4, 5, 6, 16, 127, 128, 129, 254, 255];
+/// Lengths of a state area that it must not have, up to the most that tests/board/driver.c has.
+const OTHER_LENGTHS: [usize; 8] = [0, 1, IMAGE_BYTES - 2, IMAGE_BYTES - 1, IMAGE_BYTES + 1, 512, 2 * IMAGE_BYTES, 4_096];
+/// Fresh starts are made on so many areas of each kind: sound, damaged and random ones.
+const STARTED_AREAS: usize = 8;
 
 /// The same call with a number past all that a script can name.
 fn enlarged(call: &Call, random: &mut Random) -> Call {
@@ -46,14 +56,18 @@ fn enlarged(call: &Call, random: &mut Random) -> Call {
     }
 }
 
-/// The calls of a random script, from fresh; the kernel that they lead to.
+/// The calls of a random script, from fresh, with the slice that its first line names; the kernel that they lead to.
 fn sequence(seed: u64, calls: u64, store: &mut [u8]) -> (Batch, Kernel) {
     let mut batch = Batch::new(format!("seed {seed}"));
     let mut script = Script::new(seed, calls);
+    let mut lines = std::iter::from_fn(|| script.next_line()).peekable();
     let mut random = Random::new(!seed);
-    let mut kernel = Kernel::fresh();
-    batch.fresh();
-    while let Some(line) = script.next_line() {
+    let mut area = batch.fresh(&[0; IMAGE_BYTES], IMAGE_BYTES, None);
+    if let Some(slice) = lines.peek().and_then(|line| named_slice(line)) {
+        area = batch.fresh(&area, IMAGE_BYTES, Some(slice));
+    }
+    let mut kernel = decide(&area).expect("the image of a fresh kernel");
+    for line in lines {
         let Some(call) = parse(&line) else { continue };
         batch.call(&mut kernel, store, &call);
         if random.one_in(60) {
@@ -79,6 +93,31 @@ fn sequence(seed: u64, calls: u64, store: &mut [u8]) -> (Batch, Kernel) {
 fn ask_about_all(batch: &mut Batch, kernel: &mut Kernel, store: &mut [u8]) {
     for process in (0..PROCESSES as u32).chain(BEYOND) {
         batch.call(kernel, store, &Call::Why(process));
+    }
+}
+
+/// Fresh starts on an area, whatever it holds: without a slice and with every one, with slices that there are not, and with
+/// other lengths.
+fn start_on(batch: &mut Batch, area: &[u8]) {
+    for slice in [None].into_iter().chain((1..=LONGEST_SLICE).chain(REFUSED_SLICES).map(Some)) {
+        batch.fresh(area, IMAGE_BYTES, slice);
+    }
+    for told in OTHER_LENGTHS {
+        for slice in [None, Some(0), Some(1), Some(3), Some(255), Some(256), Some(u32::MAX)] {
+            batch.fresh(area, told, slice);
+        }
+    }
+}
+
+/// Two processes take turns until each has used up a slice.
+fn use_up(batch: &mut Batch, store: &mut [u8], slice: u32) {
+    let area = batch.fresh(&[0; IMAGE_BYTES], IMAGE_BYTES, Some(slice));
+    let mut kernel = decide(&area).expect("the image of a fresh kernel");
+    for _ in 0..2 {
+        batch.call(&mut kernel, store, &Call::Create(2));
+    }
+    for _ in 0..2 * slice {
+        batch.call(&mut kernel, store, &Call::Tick);
     }
 }
 
@@ -144,7 +183,7 @@ fn judge_all(board: &mut Board, name: String, store: &mut [u8], areas: impl Iter
 }
 
 /// Fields in which a flipped bit may leave a state that is sound.
-const UNNOTICED: [&str; 4] = ["class", "ticks", "length", "count"];
+const UNNOTICED: [&str; 5] = ["class", "ticks", "length", "count", "slice"];
 
 /// Flips each bit in turn, and prints in which fields nobody can notice it.
 fn flip_all(board: &mut Board, name: &str, store: &mut [u8], sound: &[u8]) -> io::Result<()> {
@@ -169,12 +208,24 @@ fn compare(board: &mut Board, today: u64) -> io::Result<()> {
     println!("calls in {} sequences: {calls}", kernels.len());
 
     let images: Vec<Vec<u8>> = kernels.iter().map(|kernel| image(kernel).to_vec()).collect();
-    for seed in (0..FIXED_SEEDS as usize).step_by(EVERY) {
-        let areas = every_byte_changed(&images[seed], &mut Random::new(seed as u64));
-        judge_all(board, format!("one byte changed after seed {seed}"), &mut store, areas.into_iter())?;
-        flip_all(board, &format!("after seed {seed}"), &mut store, &images[seed])?;
+    let mut random = Random::new(today);
+    let mut batch = Batch::new(format!("fresh starts, seed {today}"));
+    for turn in 0..STARTED_AREAS {
+        for area in [images[EVERY * turn].clone(), damaged(&images, &mut random), random_bytes(&mut random)] {
+            start_on(&mut batch, &area);
+        }
     }
-    flip_all(board, "fresh", &mut store, &image(&Kernel::fresh()))?;
+    USED_UP.into_iter().for_each(|slice| use_up(&mut batch, &mut store, slice));
+    board.run(&batch)?;
+    println!("calls in fresh starts: {}", batch.calls());
+
+    let fresh = ("fresh".to_string(), image(&Kernel::fresh()).to_vec());
+    let after_seeds = (0..FIXED_SEEDS as usize).step_by(EVERY).map(|seed| (format!("after seed {seed}"), images[seed].clone()));
+    for (number, (name, area)) in after_seeds.chain([fresh]).enumerate() {
+        let areas = every_byte_changed(&area, &mut Random::new(number as u64));
+        judge_all(board, format!("one byte changed, {name}"), &mut store, areas.into_iter())?;
+        flip_all(board, &name, &mut store, &area)?;
+    }
     let mut random = Random::new(today);
     judge_all(board, format!("several bytes changed, seed {today}"), &mut store, (0..DAMAGED).map(|_| damaged(&images, &mut random)))?;
     let mut random = Random::new(today);

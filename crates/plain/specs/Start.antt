@@ -1,0 +1,28 @@
+-- The fresh start, a call of its own: request 3's "A fresh kernel takes the slice as a setting".
+-- Assumes nothing.
+use Prim.Native.Nat.{ℕ}
+use mathlib.Core.Bool.{_||_}
+use mathlib.Core.List.{List, [], _∷_}
+use lib.Dec.{ltb, eqb}
+use Rattle.plain.specs.State.{Settings, start, fresh}
+use Rattle.plain.specs.Calls.{Refusal, on, Outcome, done, judge}
+
+-- "the slice as a setting, 1 to 255"
+unfoldable pub longestSlice : ℕ
+longestSlice = 255
+
+-- where n ticks are named
+abbrev pub sliceOf : ℕ → Settings
+sliceOf n = record { slice = n }
+
+-- "16 for a slice outside 1 to 255"
+abbrev pub noSlice : Settings → Refusal
+noSlice x = on 16 (eqb (x .slice) 0 || ltb longestSlice (x .slice))
+
+-- 14 is judged before it and belongs to the code, as with every call
+abbrev pub startRefusals : Settings → List Refusal
+startRefusals x = noSlice x ∷ []
+
+-- It looks at no state, so that 0 runs in every answer; "if refused, 5 holds".
+unfoldable pub freshStart : Settings → Outcome
+freshStart x = judge (startRefusals x) fresh (done 0 (start x))
