@@ -6,6 +6,8 @@ pub mod call;
 pub mod compare;
 pub mod coverage;
 pub mod desk;
+#[cfg(test)]
+mod example;
 pub mod grammar;
 pub mod image;
 pub mod junk;

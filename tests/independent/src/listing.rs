@@ -77,6 +77,7 @@ impl Kernel {
 #[cfg(test)]
 mod tests {
     use super::*;
+    use crate::example::everyone;
     use crate::scripts::Script;
 
     fn numbers(kernel: &Kernel, process: usize) -> [u32; 7] {
@@ -92,25 +93,10 @@ mod tests {
 
     #[test]
     fn every_place() {
-        let mut kernel = Kernel::fresh_slice(3).unwrap();
-        kernel.create(4);
-        kernel.receive(9); // 1 waits at mailbox 9
-        kernel.create(3);
-        kernel.send(2, b"four");
-        kernel.receive(2);
-        kernel.wait(15); // 2 waits at semaphore 15 with 4 bytes in hand
-        kernel.create(4);
-        kernel.receive(9); // 3 waits behind 1
-        kernel.create(2); // 4 runs
-        kernel.create(1); // 5, 6 and 7 are ready
-        kernel.create(1);
-        kernel.create(0);
-        kernel.send(0, b"");
-        kernel.receive(0);
-        kernel.tick();
+        let mut kernel = everyone();
         assert_eq!(numbers(&kernel, 0), [5, 0, 0, 0, 0, 0, 0]);
         assert_eq!(numbers(&kernel, 1), [3, 9, 0, 4, 3, 0, 0]);
-        assert_eq!(numbers(&kernel, 2), [4, 15, 0, 3, 3, 1, 4]);
+        assert_eq!(numbers(&kernel, 2), [4, 15, 0, 3, 3, 1, 1]);
         assert_eq!(numbers(&kernel, 3), [3, 9, 1, 4, 3, 0, 0]);
         assert_eq!(numbers(&kernel, 4), [1, 2, 0, 2, 2, 1, 0]);
         assert_eq!(numbers(&kernel, 5), [2, 1, 0, 1, 3, 0, 0]);

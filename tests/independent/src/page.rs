@@ -56,6 +56,7 @@ fn unused_in_words(unused: usize) -> String {
 #[cfg(test)]
 mod tests {
     use super::*;
+    use crate::example::everyone;
 
     #[test]
     fn fresh() {
@@ -70,21 +71,6 @@ mod tests {
 
     #[test]
     fn every_place_and_hand() {
-        let mut kernel = Kernel::fresh_slice(3).unwrap();
-        kernel.create(4);
-        kernel.receive(9); // 1 waits at mailbox 9
-        kernel.create(3);
-        kernel.send(2, b"!");
-        kernel.receive(2);
-        kernel.wait(15); // 2 waits at semaphore 15 with a byte in hand
-        kernel.create(4);
-        kernel.receive(9); // 3 waits behind 1
-        kernel.create(2); // 4 runs
-        kernel.create(1); // 5 and 6 are ready
-        kernel.create(1);
-        kernel.send(0, b"");
-        kernel.receive(0);
-        kernel.tick();
         let lines = [
             "Process  Stands                        Class  Ticks left  In hand",
             "0        stands by                     0      0           nothing",
@@ -94,10 +80,11 @@ mod tests {
             "4        runs                          2      2           a message of 0 bytes",
             "5        ready in class 1, first       1      3           nothing",
             "6        ready in class 1, 1 ahead     1      3           nothing",
-            "25 processes are unused.",
+            "7        ready in class 0, first       0      3           nothing",
+            "24 processes are unused.",
             "",
         ];
-        assert_eq!(page(&kernel), lines.join("\n"));
+        assert_eq!(page(&everyone()), lines.join("\n"));
     }
 
     #[test]
