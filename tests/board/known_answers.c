@@ -167,6 +167,15 @@ static void sample_of_the_paper(void) {
     expect("end", END, 0, CSENGADRUL_DONE, 0, 2);
 }
 
+/* 1 runs for a tick while 2 is ready, is preempted by 3, and runs again. */
+static void preempted_after_a_tick(void) {
+    create(2, 1, 1);
+    create(2, 2, 1);
+    tick(1);
+    create(4, 3, 3);
+    expect("end", END, 0, CSENGADRUL_DONE, 0, 1);
+}
+
 /* P1 to P10 of document 01. */
 static void table_of_the_paper(void) {
     fresh();
@@ -178,11 +187,7 @@ static void table_of_the_paper(void) {
     tick(1);
     tick(2);
     fresh();
-    create(2, 1, 1);
-    create(2, 2, 1);
-    tick(1);
-    create(4, 3, 3);
-    expect("end", END, 0, CSENGADRUL_DONE, 0, 1);
+    preempted_after_a_tick();
     tick(1);
     tick(2);
     fresh();
@@ -544,11 +549,7 @@ static void slices_at_work(void) {
         take_turns(slices[i]);
     }
     start(5);
-    create(2, 1, 1);
-    create(2, 2, 1);
-    tick(1);
-    create(4, 3, 3);
-    expect("end", END, 0, CSENGADRUL_DONE, 0, 1);
+    preempted_after_a_tick();
     tick(1);
     tick(1);
     tick(1);
