@@ -24,8 +24,8 @@ use Rattle.kernel.specs.declared.Done.{Done}
 use Rattle.image.specs.Image.{size}
 use Rattle.board.specs.Area.{Lies, beginRefusals, Begins, HandedBack}
 
-pub begins-elsewhere : {x : Settings} {area after : List ℕ} {a : Answer} → (length area ≡ size → ⊥) → after ≡ area → said a ≡ notSound → Begins x area after a
-begins-elsewhere {area = area} o e z = record {
+pub begins-elsewhere : {x : Settings} (area : List ℕ) {after : List ℕ} {a : Answer} → (length area ≡ size → ⊥) → after ≡ area → said a ≡ notSound → Begins x area after a
+begins-elsewhere area o e z = record {
   answer = rw (ne-eqb (length area) size o) z;
   begun = λ n. absurd (true≢false (sym (ap isRefusal z) ∙ n));
   refused = λ n. e;

@@ -6,7 +6,7 @@ use Rattle.board.proofs.begin.Statement.{statement}
 use Rattle.board.proofs.begin.Tie as tie
 
 returns : tie.Need-returns
-returns c = begins-elsewhere (c .if1 .taken) refl refl
+returns c = begins-elsewhere (c .before .before .args .state .now) (c .if1 .taken) refl refl
 
 returns-2 : tie.Need-returns-2
 returns-2 c = begins-refused _ _ (c .before .before .before .fresh-start .result) (c .before .before .before .before .if1 .left) (c .before .before .before .fresh-start .ensures) (c .if2 .taken) refl refl
