@@ -48,10 +48,10 @@ module _ (x : ℕ) (a b n rest : List ℕ) (la : length a ≡ processes) (lb : l
   laid-out : seating area ≡ seated x a b n
   laid-out = rw (classes-there, ticks-there, next-there)
 
-regroup : (h n p r u m c x : List ℕ) → h ++ (n ++ p) ++ r ++ u ++ m ++ c ++ x ≡ h ++ (n ++ (p ++ r ++ u ++ m ++ c ++ x))
-regroup [] [] p r u m c x = refl
-regroup [] (y ∷ n) p r u m c x = ap (λ (l : List ℕ). y ∷ l) (regroup [] n p r u m c x)
-regroup (y ∷ h) n p r u m c x = ap (λ (l : List ℕ). y ∷ l) (regroup h n p r u m c x)
+regroup : (h n p r u m c b x : List ℕ) → h ++ (n ++ p) ++ r ++ u ++ m ++ c ++ b ++ x ≡ h ++ (n ++ (p ++ r ++ u ++ m ++ c ++ b ++ x))
+regroup [] [] p r u m c b x = refl
+regroup [] (y ∷ n) p r u m c b x = ap (λ (l : List ℕ). y ∷ l) (regroup [] n p r u m c b x)
+regroup (y ∷ h) n p r u m c b x = ap (λ (l : List ℕ). y ∷ l) (regroup h n p r u m c b x)
 
 image-seats : (k : Kernel) → Sized k → seating (image k) ≡ Struct.seating k
 unfolding image numbers tablesOf
@@ -62,10 +62,11 @@ image-seats k z =
     let u : List ℕ = le 4 (p .unused .0) in
     let m : List ℕ = mail (k .mail) in
     let c : List ℕ = each (le 2) (k .count) in
+    let b : List ℕ = each byte (k .births) in
     let x : List ℕ = settings (k .settings) in
     rw (bytes-are (p .class), bytes-are (p .ticks), links-are (p .queues .next))
-    (ap seating (regroup (p .running .0 ∷ (p .class ++ p .ticks)) (map num (p .queues .next)) prev r u m c x)
-    ∙ laid-out (p .running .0) (p .class) (p .ticks) (map num (p .queues .next)) (prev ++ r ++ u ++ m ++ c ++ x) (z .class .long) (z .ticks .long) (length-map (p .queues .next) num ∙ z .next .long))
+    (ap seating (regroup (p .running .0 ∷ (p .class ++ p .ticks)) (map num (p .queues .next)) prev r u m c b x)
+    ∙ laid-out (p .running .0) (p .class) (p .ticks) (map num (p .queues .next)) (prev ++ r ++ u ++ m ++ c ++ b ++ x) (z .class .long) (z .ticks .long) (length-map (p .queues .next) num ∙ z .next .long))
 
 pub area-seats : Seats Lies seating
 area-seats area s l = ap seating (sym (l .bytes)) ∙ (image-seats (l .kernel) (l .sized) ∙ seats (l .kernel) s (l .holds))

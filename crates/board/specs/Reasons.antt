@@ -16,5 +16,6 @@ answerOf r = record { code = r .code; number = r .number; running = r .running }
 abbrev pub numbersOf : Reasoned → Plain.Numbers
 numbersOf r = record { kind = r .kind; which = r .which; ahead = r .ahead }
 
+-- why the process named n waits
 abbrev pub Reasons : List ℕ → ℕ → Reasoned → Type 0
-Reasons area p r = Asks Lies (λ s. Plain.why s p) (λ s. numbersOf r ≡ Plain.numbers (Plain.told s p)) (numbersOf r ≡ Plain.numbers Plain.unused) area (answerOf r)
+Reasons area n r = Asks Lies (λ s. Plain.why s n) (λ s. numbersOf r ≡ Plain.numbers (Plain.told s n)) (numbersOf r ≡ Plain.numbers Plain.unused) area (answerOf r)

@@ -12,7 +12,7 @@ use kernel::Kernel;
 use reasons::Explained;
 
 // The bytes of a state area.
-pub const SIZE: usize = 444;
+pub const SIZE: usize = 476;
 
 const USUAL_SLICE: u32 = sizes::USUAL_SLICE as u32;
 
@@ -79,10 +79,10 @@ pub extern "C" fn csengadrul_create(state: &mut [u8], class: u32) -> Answer
 }
 
 #[no_mangle]
-pub extern "C" fn csengadrul_stop(state: &mut [u8], process: u32) -> Answer
-    ensures { λ r. ⌜ Plainly (Plain.stop process) (now (state .entry)) (now (state .exit)) r ⌝ }
+pub extern "C" fn csengadrul_stop(state: &mut [u8], name: u32) -> Answer
+    ensures { λ r. ⌜ Plainly (Plain.stop name) (now (state .entry)) (now (state .exit)) r ⌝ }
 {
-    let done = image::read(state).stop(process);
+    let done = image::read(state).stop(name);
     hand_back(state, done)
 }
 
@@ -172,18 +172,18 @@ pub extern "C" fn csengadrul_wait(state: &mut [u8], semaphore: u32) -> Answer
     hand_back(state, done)
 }
 
-// Why a process of the state in the area waits.
-pub fn why(state: &[u8], process: u32) -> Explained
-    ensures { λ r. ⌜ Explains Lies (now (state .entry)) process r ⌝ }
+// Why the process of that name of the state in the area waits.
+pub fn why(state: &[u8], name: u32) -> Explained
+    ensures { λ r. ⌜ Explains Lies (now (state .entry)) name r ⌝ }
 {
-    reasons::why(image::read(state), process)
+    reasons::why(image::read(state), name)
 }
 
 #[no_mangle]
-pub extern "C" fn csengadrul_why(state: &[u8], process: u32) -> Reasoned
-    ensures { λ r. ⌜ Reasons (now (state .entry)) process r ⌝ }
+pub extern "C" fn csengadrul_why(state: &[u8], name: u32) -> Reasoned
+    ensures { λ r. ⌜ Reasons (now (state .entry)) name r ⌝ }
 {
-    let w = why(state, process);
+    let w = why(state, name);
     let a = w.answer;
     let reason = w.reason;
     let n = reasons::in_numbers(reason);

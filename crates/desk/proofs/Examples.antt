@@ -6,6 +6,7 @@ use mathlib.Core.Path.{_≡_, refl}
 use mathlib.Core.List.{List, [], _∷_, map}
 use Rattle.lists.specs.Lists.{total, lowest}
 use Rattle.plain.specs.Calls.{perform, refusals, step}
+use Rattle.plain.specs.Names.{raised, name, bare, names}
 use Rattle.plain.specs.Runs.{choose, chooseBelow, join, standDown, makeReady, goTo, remove, halt}
 use Rattle.plain.specs.Sizes.{capacity, bufferSize, longest, highestCount}
 use Rattle.plain.specs.Listing.{queueOf}
@@ -24,7 +25,7 @@ Lines = List (String × String)
 
 -- what is written for these lines, from the first on
 unfoldable pub shown : Lines → List (List ℕ)
-unfolding step refusals perform freshStart choose chooseBelow join standDown makeReady goTo remove halt spots total lowest held freeProcess freeBuffer capacity bufferSize longest highestCount longestSlice queueOf reasonIn reason why order digitsOf decimal words reasonLine
+unfolding step refusals perform freshStart raised name bare names choose chooseBelow join standDown makeReady goTo remove halt spots total lowest held freeProcess freeBuffer capacity bufferSize longest highestCount longestSlice queueOf reasonIn reason why order digitsOf decimal words reasonLine
 shown l = replies atFirst (map (λ (x : String × String). ascii (x .0)) l)
 
 abbrev meant : Lines → List (List ℕ)
@@ -34,31 +35,38 @@ meant l = map (λ (x : String × String). ascii (x .1)) l
 abbrev sample : Lines
 sample =
     ("slice 3", "0 0 0")
-    ∷ ("create 2", "0 1 1")
-    ∷ ("create 2", "0 2 1")
-    ∷ ("why 1", "0 0 1 running")
-    ∷ ("why 2", "0 0 1 ready 1")
+    ∷ ("create 2", "0 257 1")
+    ∷ ("create 2", "0 258 1")
+    ∷ ("why 257", "0 0 1 running")
+    ∷ ("why 258", "0 0 1 ready 1")
     ∷ ("why 3", "0 0 1 unused")
     ∷ ("why 0", "0 0 1 behind 1")
     ∷ ("why 32", "1 0 1")
+    ∷ ("why 256", "1 0 1")
+    ∷ ("why 2", "1 0 1")
+    ∷ ("stop 2", "1 0 1")
     ∷ ("tick", "0 0 1")
     ∷ ("send 3 414243", "0 0 1")
     ∷ ("receive 3", "0 3 1")
     ∷ ("read 2", "9 3 1")
     ∷ ("read 512", "0 3 1 414243")
     ∷ ("end", "0 0 2")
+    ∷ ("why 257", "0 0 2 unused")
+    ∷ ("stop 257", "1 0 2")
     ∷ ("frob", "bad")
     -- no bytes, on both sides
     ∷ ("send 0 -", "0 0 2")
     ∷ ("receive 0", "0 0 2")
     ∷ ("read 0", "0 0 2 -")
     -- a receiver and a waiter, each with nobody ahead
-    ∷ ("create 2", "0 1 2")
+    ∷ ("create 2", "0 513 2")
     ∷ ("release", "0 0 2")
     ∷ ("receive 9", "32 0 1")
     ∷ ("wait 4", "32 0 0")
-    ∷ ("why 2", "0 0 0 mailbox 9 0")
-    ∷ ("why 1", "0 0 0 semaphore 4 0")
+    ∷ ("why 258", "0 0 0 mailbox 9 0")
+    ∷ ("why 513", "0 0 0 semaphore 4 0")
+    ∷ ("why 257", "1 0 0")
+    ∷ ("stop 257", "1 0 0")
     ∷ ("why 0", "0 0 0 running")
     ∷ []
 
@@ -69,13 +77,13 @@ sample-written = refl
 -- ---- request 3: which slice holds is seen by the tick at which the second process runs
 
 abbrev each : Lines
-each = ("create 2", "0 1 1") ∷ ("create 2", "0 2 1") ∷ ("tick", "0 0 2") ∷ ("tick", "0 0 1") ∷ []
+each = ("create 2", "0 257 1") ∷ ("create 2", "0 258 1") ∷ ("tick", "0 0 2") ∷ ("tick", "0 0 1") ∷ []
 
 abbrev third : Lines
-third = ("create 2", "0 1 1") ∷ ("create 2", "0 2 1") ∷ ("tick", "0 0 1") ∷ ("tick", "0 0 1") ∷ ("tick", "0 0 2") ∷ []
+third = ("create 2", "0 257 1") ∷ ("create 2", "0 258 1") ∷ ("tick", "0 0 1") ∷ ("tick", "0 0 1") ∷ ("tick", "0 0 2") ∷ []
 
 abbrev fifth : Lines
-fifth = ("create 2", "0 1 1") ∷ ("create 2", "0 2 1") ∷ ("tick", "0 0 1") ∷ ("tick", "0 0 1") ∷ ("tick", "0 0 1") ∷ ("tick", "0 0 1") ∷ ("tick", "0 0 2") ∷ []
+fifth = ("create 2", "0 257 1") ∷ ("create 2", "0 258 1") ∷ ("tick", "0 0 1") ∷ ("tick", "0 0 1") ∷ ("tick", "0 0 1") ∷ ("tick", "0 0 1") ∷ ("tick", "0 0 2") ∷ []
 
 -- scripts, each from the first line on
 abbrev slices : List Lines

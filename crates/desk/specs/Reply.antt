@@ -7,6 +7,7 @@ use mathlib.Core.Option.{Option, none, some}
 use lib.Dec.{eqb}
 use Rattle.lists.specs.Lists.{if_then_else_}
 use Rattle.plain.specs.Calls.{Call, Answer, Outcome, step}
+use Rattle.plain.specs.Names.{bare}
 use Rattle.plain.specs.Start.{sliceOf, freshStart}
 use Rattle.plain.specs.State.{State, fresh}
 use Rattle.plain.specs.Why as Plain
@@ -51,7 +52,7 @@ replyTo t none = badReply t
 replyTo t (some (does c)) =
     let o : Outcome = step (t .state) c in
     record { text = textOf c (o .answer) (o .message); next = later (o .next) }
-replyTo t (some (why p)) = record { text = whyText (Plain.why (t .state) p .answer) (Plain.reason (t .state) p); next = later (t .state) }
+replyTo t (some (why n)) = record { text = whyText (Plain.why (t .state) n .answer) (Plain.reason (t .state) (bare n)); next = later (t .state) }
 replyTo t (some (slice n)) =
     let o : Outcome = freshStart (sliceOf n) in
     if t .first then record { text = line (o .answer); next = later (o .next) } else badReply t

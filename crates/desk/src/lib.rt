@@ -117,12 +117,12 @@ fn read(d: Desk, store: &[u8], n: u32, out: &mut [u8]) -> Turn
     turned(state, length)
 }
 
-// Why process p waits, whatever the store holds. A refusal shows no reason.
-fn why(d: Desk, p: u32, out: &mut [u8]) -> Turn
-    ensures { λ r. ⌜ ((store : List ℕ) → Turned (some (why p)) store (now (out .entry)) d store (now (out .exit)) r) ⌝ }
+// Why the process of that name waits, whatever the store holds. A refusal shows no reason.
+fn why(d: Desk, name: u32, out: &mut [u8]) -> Turn
+    ensures { λ r. ⌜ ((store : List ℕ) → Turned (some (why name)) store (now (out .entry)) d store (now (out .exit)) r) ⌝ }
 {
     let k = d.state;
-    let w = reasons::why(k, p);
+    let w = reasons::why(k, name);
     let answer = w.answer;
     if answer.code != 0 {
         let length = answers::put_line(out, answer.code, answer.number, answer.running);
@@ -168,7 +168,7 @@ pub fn line(d: Desk, store: &mut [u8], line: &[u8], out: &mut [u8]) -> Turn
         }
         Word::Send(m) => send(d, store, m, q, out),
         Word::Read(n) => read(d, store, n, out),
-        Word::Why(p) => why(d, p, out),
+        Word::Why(n) => why(d, n, out),
         Word::Slice(n) => start(d, n, out),
     }
 }

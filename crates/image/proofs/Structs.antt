@@ -35,7 +35,7 @@ abbrev FitsSettings : Settings → Type 0
 FitsSettings x = U8 (x .slice)
 
 abbrev FitsKernel : Kernel → Type 0
-FitsKernel k = ((FitsProcs (k .procs) × FitsMail (k .mail)) × Array semaphores U16 (k .count)) × FitsSettings (k .settings)
+FitsKernel k = (((FitsProcs (k .procs) × FitsMail (k .mail)) × Array semaphores U16 (k .count)) × Array processes U8 (k .births)) × FitsSettings (k .settings)
 
 pid-code : Code pid 1 FitsPid
 pid-code = through (λ (p : Pid). p .0) (λ n. record { 0 = n }) (λ n. refl) (λ p. refl) byte-code
@@ -67,15 +67,15 @@ settings-code = through (λ (x : Settings). x .slice) (λ n. record { slice = n 
 kernel-code : Code image size FitsKernel
 unfolding image
 kernel-code =
-    through (λ (k : Kernel). (((k .procs, k .mail), k .count), k .settings))
-    (λ t. record { procs = t .0 .0 .0; mail = t .0 .0 .1; count = t .0 .1; settings = t .1 }) (λ t. refl) (λ k. refl)
-    (both (both (both procs-code mail-code) (array (le-code 2) semaphores)) settings-code)
+    through (λ (k : Kernel). ((((k .procs, k .mail), k .count), k .births), k .settings))
+    (λ t. record { procs = t .0 .0 .0 .0; mail = t .0 .0 .0 .1; count = t .0 .0 .1; births = t .0 .1; settings = t .1 }) (λ t. refl) (λ k. refl)
+    (both (both (both (both procs-code mail-code) (array (le-code 2) semaphores)) (array byte-code processes)) settings-code)
 
 fits : (k : Kernel) → Sized k → FitsKernel k
 fits k s =
     let procs : FitsProcs (k .procs) = (((((s .running, s .class), s .ticks), (s .next, s .prev)), s .ready), s .unused) in
     let mail : FitsMail (k .mail) = (((((s .box-next, s .box-prev), s .hand), s .full), s .lengths), s .free) in
-    (((procs, mail), s .count), s .slice)
+    ((((procs, mail), s .count), s .births), s .slice)
 
 pub image-code : Code image size Sized
 image-code = record {
@@ -87,8 +87,8 @@ image-code = record {
   where
     sized-of : (k : Kernel) → FitsKernel k → Sized k
     sized-of k f =
-        let procs = f .0 .0 .0 in
-        let mail = f .0 .0 .1 in
+        let procs = f .0 .0 .0 .0 in
+        let mail = f .0 .0 .0 .1 in
         record {
           running = procs .0 .0 .0 .0 .0;
           class = procs .0 .0 .0 .0 .1;
@@ -103,6 +103,7 @@ image-code = record {
           full = mail .0 .0 .1;
           lengths = mail .0 .1;
           free = mail .1;
-          count = f .0 .1;
+          count = f .0 .0 .1;
+          births = f .0 .1;
           slice = f .1;
         }

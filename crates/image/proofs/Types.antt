@@ -53,5 +53,6 @@ sized k vs p =
       lengths = pairs buffers (k .mail .length) _ (mail .1 .1 .1 .0);
       free = mail .1 .1 .1 .1 .0 .1 .1 .0 .1;
       count = pairs semaphores (k .count) _ (fields .1 .1 .0);
-      slice = fields .1 .1 .1 .0 .1 .1 .0 .1;
+      births = bytes processes (k .births) _ (fields .1 .1 .1 .0);
+      slice = fields .1 .1 .1 .1 .0 .1 .1 .0 .1;
     }

@@ -45,14 +45,17 @@ boxesLong = boxNodes + boxNodes
 abbrev pub mailLong : ℕ
 mailLong = boxesLong + processes + 4 + 2 * buffers + 4
 
--- the settings stand behind the counts: the slice
+-- the birth counts stand behind the counts, and the settings, the slice, behind these
+abbrev pub birthsAt : ℕ
+birthsAt = procsLong + mailLong + 2 * semaphores
+
 abbrev pub settingsAt : ℕ
-settingsAt = procsLong + mailLong + 2 * semaphores
+settingsAt = birthsAt + processes
 
 abbrev pub settingsLong : ℕ
 settingsLong = 1
 
--- 444
+-- 476
 abbrev pub size : ℕ
 size = settingsAt + settingsLong
 
@@ -78,7 +81,7 @@ abbrev pub settings : Settings → List ℕ
 settings x = byte (x .slice)
 
 unfoldable pub image : Kernel → List ℕ
-image k = procs (k .procs) ++ mail (k .mail) ++ each (le 2) (k .count) ++ settings (k .settings)
+image k = procs (k .procs) ++ mail (k .mail) ++ each (le 2) (k .count) ++ each byte (k .births) ++ settings (k .settings)
 
 -- a struct's arrays have their lengths, and its numbers fit: so it is with every value of the struct type
 abbrev pub U8 : ℕ → Type 0
@@ -109,6 +112,7 @@ pub record Sized (k : Kernel) : Type 0 where
   pub lengths : Array buffers U16 (k .mail .length)
   pub free : U32 (k .mail .free .0)
   pub count : Array semaphores U16 (k .count)
+  pub births : Array processes U8 (k .births)
   pub slice : U8 (k .settings .slice)
 
 -- every field is zero
@@ -130,6 +134,7 @@ blank = record {
     free = record { 0 = 0 };
   };
   count = replicate semaphores 0;
+  births = replicate processes 0;
   settings = record { slice = 0 };
 }
 

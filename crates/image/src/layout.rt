@@ -41,7 +41,9 @@ pub(crate) const FREE: usize = LENGTH + 2 * BUFFERS;
 
 pub(crate) const COUNT: usize = FREE + 4;
 
-pub(crate) const SETTINGS: usize = COUNT + 2 * SEMAPHORES;
+pub(crate) const BIRTHS: usize = COUNT + 2 * SEMAPHORES;
+
+pub(crate) const SETTINGS: usize = BIRTHS + PROCESSES;
 
 pub(crate) const SIZE: usize = SETTINGS + 1;
 

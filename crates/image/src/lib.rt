@@ -31,11 +31,13 @@ pub fn read(area: &[u8]) -> Kernel
     let mail = get::mail(area);
     let mut count = [0u16; SEMAPHORES];
     get::halfwords(area, layout::COUNT, &mut count);
+    let births = get::bytes(area, layout::BIRTHS);
     let settings = get::settings(area);
     Kernel {
         procs,
         mail,
         count,
+        births,
         settings,
     }
 }
@@ -53,6 +55,8 @@ pub fn write(area: &mut [u8], k: Kernel)
     put::mail(area, m);
     let count = k.count;
     put::halfwords(area, layout::COUNT, &count);
+    let births = k.births;
+    put::births(area, births);
     let settings = k.settings;
     put::settings(area, settings);
 }
@@ -90,11 +94,13 @@ fn blank() -> Kernel
         free: Bids(0),
     };
     let count = [0u16; SEMAPHORES];
+    let births = [0u8; PROCESSES];
     let settings = Settings { slice: 0 };
     Kernel {
         procs,
         mail,
         count,
+        births,
         settings,
     }
 }

@@ -4,7 +4,7 @@ ghost use Prim.Native.Nat.{_*_};
 ghost use lib.ListN.{length};
 ghost use Rattle.image.specs.Bytes.{byte, le, each, Put};
 ghost use Rattle.plain.specs.Sizes.{processes};
-ghost use Rattle.image.specs.Image.{nodes, boxNodes, procsLong, mailLong, settingsAt, settingsLong, pid, bid, procs, mail, settings};
+ghost use Rattle.image.specs.Image.{nodes, boxNodes, procsLong, mailLong, birthsAt, settingsAt, settingsLong, pid, bid, procs, mail, settings};
 use crate::layout;
 use crate::layout::BOX_NODES;
 use crate::layout::NODES;
@@ -123,6 +123,12 @@ pub(crate) fn mail(area: &mut [u8], m: Mail)
     let length = m.length;
     halfwords(area, layout::LENGTH, &length);
     word(area, layout::FREE, m.free.0);
+}
+
+pub(crate) fn births(area: &mut [u8], xs: [u8; PROCESSES])
+    ensures { λ _. ⌜ Put birthsAt processes (each byte xs) (now (area .entry)) (now (area .exit)) ⌝ }
+{
+    bytes(area, layout::BIRTHS, &xs);
 }
 
 pub(crate) fn settings(area: &mut [u8], x: Settings)

@@ -92,6 +92,7 @@ sized {k} {s} H S =
       lengths = fitting U16 buffers (k .mail .length) (K .lengths-long) (λ b h. omega (arith, short K (S .mail) b));
       free = bits-fit (Carries.isFree (s .box) (s .hand)) (K .free);
       count = fitting U16 semaphores (k .count) (H .counts .long) (λ i h. omega (arith, H .counts .each i, S .counts .most i));
+      births = fitting U8 processes (k .births) (H .births .long) (λ p h. omega (arith, H .births .each p, S .births .most p));
       slice = omega (arith, ap (λ (x : Settings). x .slice) (H .settings), S .settings .not-over);
     }
   where

@@ -16,12 +16,12 @@ use Rattle.plain.specs.Runs.{makeReady, goTo}
 use Rattle.plain.specs.Sizes.{processes, classes, mailboxes, buffers, semaphores, highestCount, atMailbox, atSemaphore, queues}
 use Rattle.plain.specs.Sound.{Sound}
 use Rattle.plain.specs.State as State
-use Rattle.plain.specs.State.{Message, Settings, State, move, line, freeBuffer}
+use Rattle.plain.specs.State.{Message, Settings, State, places, move, line, freeBuffer}
 use Rattle.plain_laws.proofs.Frames.{slice-some}
 use Rattle.plain_laws.proofs.Mail.{free-nowhere}
 use Rattle.plain_laws.proofs.Seats.{head-in, runner-range}
 use Rattle.procs.proofs.Calls.{woken-nobody}
-use Rattle.procs.proofs.Kept.{woken-kept, went-kept, halted-kept}
+use Rattle.procs.proofs.Kept.{created-kept, woken-kept, went-kept, halted-kept}
 use Rattle.procs.proofs.Looks.{first-there, first-nobody}
 use Rattle.procs.specs.Moves as Procs
 use Rattle.procs.specs.Stands as Stands
@@ -32,13 +32,15 @@ use Rattle.mail.specs.Moves as Mail
 use Rattle.mail.specs.declared.Mail as Mail′
 use Rattle.counts.proofs.Laws.{signalled-counted, claimed-counted}
 use Rattle.counts.specs.Counts as Counts
+use Rattle.names.proofs.Laws.{born-kept}
+use Rattle.names.specs.Counts as Names
 use Rattle.kernel.specs.Holds.{named, settingsOf, Holds}
 use Rattle.kernel.specs.Judged.{Made}
 use Rattle.kernel.specs.declared.Kernel.{Kernel}
 use Rattle.kernel.specs.declared.Settings as Code
 
-pub made-holds : {r : Kernel} {s : State} {p : Stands.Numbers} {m : Carries.Numbers} {c : List ℕ} {x : Code.Settings} → Made r p m c x → Stands.Keeps p (s .procs) → Carries.Carries m (s .box) (s .hand) → Counts.Counted c (s .count) → s .settings ≡ named x → Holds r s
-made-holds M P C N e = record { procs = rw (M .procs) P; mail = rw (M .mail) C; counts = rw (M .count) N; settings = rw (M .settings) e }
+pub made-holds : {r : Kernel} {s : State} {p : Stands.Numbers} {m : Carries.Numbers} {c b : List ℕ} {x : Code.Settings} → Made r p m c b x → Stands.Keeps p (s .procs) → Carries.Carries m (s .box) (s .hand) → Counts.Counted c (s .count) → Names.Kept b (s .births) → s .settings ≡ named x → Holds r s
+made-holds M P C N B e = record { procs = rw (M .procs) P; mail = rw (M .mail) C; counts = rw (M .count) N; births = rw (M .births) B; settings = rw (M .settings) e }
 
 module _ {k : Kernel} {s : State} (H : Holds k s) where
   -- the slice that k has is that of the state
@@ -46,13 +48,13 @@ module _ {k : Kernel} {s : State} (H : Holds k s) where
   slice-is = ap (λ (t : Settings). t .slice) (sym (H .settings))
 
   -- only the processes move
-  pub moved-holds : {procs : Procs′.Procs} {next : State.Procs} → Stands.Keeps (Stands.numbers procs) next → Holds (record { procs = procs; mail = k .mail; count = k .count; settings = k .settings }) (move next s)
-  moved-holds K = record { procs = K; mail = H .mail; counts = H .counts; settings = H .settings }
+  pub moved-holds : {procs : Procs′.Procs} {next : State.Procs} → Stands.Keeps (Stands.numbers procs) next → Holds (record { procs = procs; mail = k .mail; count = k .count; births = k .births; settings = k .settings }) (move next s)
+  moved-holds K = record { procs = K; mail = H .mail; counts = H .counts; births = H .births; settings = H .settings }
 
   -- only the mail changes
   pub mailed-holds : {mail : Mail′.Mail} {box : ℕ → List Message} {hand : ℕ → Option Message} → Carries.Carries (Carries.numbers mail) box hand
-      → Holds (record { procs = k .procs; mail = mail; count = k .count; settings = k .settings }) (record { procs = s .procs; hand = hand; box = box; count = s .count; settings = s .settings })
-  mailed-holds C = record { procs = H .procs; mail = C; counts = H .counts; settings = H .settings }
+      → Holds (record { procs = k .procs; mail = mail; count = k .count; births = k .births; settings = k .settings }) (record { procs = s .procs; hand = hand; box = box; count = s .count; births = s .births; settings = s .settings })
+  mailed-holds C = record { procs = H .procs; mail = C; counts = H .counts; births = H .births; settings = H .settings }
 
   module _ (S : Sound s) where
     abbrev procs : Stands.Numbers
@@ -71,15 +73,22 @@ module _ {k : Kernel} {s : State} (H : Holds k s) where
     roused-kept q [] h e = rw (woken-nobody (H .procs .stands) (settingsOf k .slice) q e) (H .procs)
     roused-kept q (w ∷ l) h e = rw slice-is (woken-kept (H .procs) (slice-some s S) (S .seated) (S .highest) q w l h e)
 
+    -- p, who is unused, becomes a process of class c, by numbers that are p and c
+    pub created-holds : {r : Kernel} {n q d : ℕ} (p c : ℕ) → n ≡ settingsOf k .slice → q ≡ p → d ≡ c → places (s .procs) p ≡ 0 → 1 ≤ p → p < processes → c < classes
+        → Made r (Procs.created n q d procs) (Carries.numbers (k .mail)) (k .count) (Names.born (k .births) q) (k .settings) → Holds r (Plain.created p c s)
+    created-holds p c is e e′ free h h′ hc M =
+        made-holds M (rw (e, e′, is ∙ slice-is) (created-kept (H .procs) (slice-some s S) (S .seated) (S .highest) p c free h h′ hc)) (H .mail) (H .counts)
+        (rw e (born-kept (H .births) p h′)) (H .settings)
+
     -- p is stopped, by a number that is p's
-    pub stopped-holds : {r : Kernel} {q : ℕ} (p : ℕ) → q ≡ p → 1 ≤ p → p < processes → Made r (Procs.halted q procs) (Mail.letGo (Carries.numbers (k .mail)) q) (k .count) (k .settings) → Holds r (Plain.stopped p s)
+    pub stopped-holds : {r : Kernel} {q : ℕ} (p : ℕ) → q ≡ p → 1 ≤ p → p < processes → Made r (Procs.halted q procs) (Mail.letGo (Carries.numbers (k .mail)) q) (k .count) (k .births) (k .settings) → Holds r (Plain.stopped p s)
     stopped-holds {r} p e h h′ M =
-        made-holds (subst (λ (q : ℕ). Made r (Procs.halted q procs) (Mail.letGo (Carries.numbers (k .mail)) q) (k .count) (k .settings)) e M)
-        (halted-kept (H .procs) (slice-some s S) (S .seated) (S .highest) p h h′) (let-go-carries (H .mail) (S .mail) p h′) (H .counts) (H .settings)
+        made-holds (subst (λ (q : ℕ). Made r (Procs.halted q procs) (Mail.letGo (Carries.numbers (k .mail)) q) (k .count) (k .births) (k .settings)) e M)
+        (halted-kept (H .procs) (slice-some s S) (S .seated) (S .highest) p h h′) (let-go-carries (H .mail) (S .mail) p h′) (H .counts) (H .births) (H .settings)
 
     -- buffer b takes message x, which the first waiter at mailbox m gets in hand, or which is queued last
     pub delivered-holds : {r : Kernel} (m b n : ℕ) (x : List ℕ) → length x ≡ n → m < mailboxes → b < buffers → b ≡ freeBuffer s
-        → Made r (Procs.woken (settingsOf k .slice) (atMailbox m) procs) (Mail.delivered (Carries.numbers (k .mail)) m (Procs.firstOf procs (atMailbox m)) b n) (k .count) (k .settings)
+        → Made r (Procs.woken (settingsOf k .slice) (atMailbox m) procs) (Mail.delivered (Carries.numbers (k .mail)) m (Procs.firstOf procs (atMailbox m)) b n) (k .count) (k .births) (k .settings)
         → Holds r (Plain.deliver m (record { buffer = b; bytes = x }) (s .procs .queue (atMailbox m)) s)
     delivered-holds {r} m b n x long hm hb is M = go (s .procs .queue (atMailbox m)) refl
       where
@@ -91,8 +100,8 @@ module _ {k : Kernel} {s : State} (H : Holds k s) where
             (λ h. let f = first-there (H .procs) (atMailbox m) refl h in S .hands .waiters m (Procs.firstOf procs (atMailbox m)) hm (head-in (s .settings .slice) (s .procs) (S .seated) (atMailbox m) _ (f .0) (f .1)))
 
         go : (l : List ℕ) → s .procs .queue (atMailbox m) ≡ l → Holds r (Plain.deliver m (record { buffer = b; bytes = x }) l s)
-        go [] e = made-holds M (roused-kept (atMailbox m) [] (omega arith) e) (carries [] e) (H .counts) (H .settings)
-        go (w ∷ l) e = made-holds M (roused-kept (atMailbox m) (w ∷ l) (omega arith) e) (carries (w ∷ l) e) (H .counts) (H .settings)
+        go [] e = made-holds M (roused-kept (atMailbox m) [] (omega arith) e) (carries [] e) (H .counts) (H .births) (H .settings)
+        go (w ∷ l) e = made-holds M (roused-kept (atMailbox m) (w ∷ l) (omega arith) e) (carries (w ∷ l) e) (H .counts) (H .births) (H .settings)
 
     someone-first : (q : ℕ) (l : List ℕ) → s .procs .queue q ≡ l → ltb (Procs.firstOf procs q) processes ≡ someone l
     someone-first q [] e = le-ltb (Procs.firstOf procs q) processes (first-none (H .procs .stands .queues) q e)
@@ -100,7 +109,7 @@ module _ {k : Kernel} {s : State} (H : Holds k s) where
 
     -- the first waiter at semaphore i is made ready, or its count goes up
     pub signalled-holds : {r : Kernel} (i : ℕ) → i < semaphores → s .count i ≢ highestCount
-        → Made r (Procs.woken (settingsOf k .slice) (atSemaphore i) procs) (Carries.numbers (k .mail)) (Counts.signalled (k .count) i (ltb (Procs.firstOf procs (atSemaphore i)) processes)) (k .settings)
+        → Made r (Procs.woken (settingsOf k .slice) (atSemaphore i) procs) (Carries.numbers (k .mail)) (Counts.signalled (k .count) i (ltb (Procs.firstOf procs (atSemaphore i)) processes)) (k .births) (k .settings)
         → Holds r (Plain.wake i (s .procs .queue (atSemaphore i)) s)
     signalled-holds {r} i h top M = go (s .procs .queue (atSemaphore i)) refl
       where
@@ -108,15 +117,16 @@ module _ {k : Kernel} {s : State} (H : Holds k s) where
         counted l e = rw (someone-first (atSemaphore i) l e) (signalled-counted s (H .counts) i h l (omega (arith, top, S .counts .most i)))
 
         go : (l : List ℕ) → s .procs .queue (atSemaphore i) ≡ l → Holds r (Plain.wake i l s)
-        go [] e = made-holds M (roused-kept (atSemaphore i) [] (omega arith) e) (H .mail) (counted [] e) (H .settings)
-        go (w ∷ l) e = made-holds M (roused-kept (atSemaphore i) (w ∷ l) (omega arith) e) (H .mail) (counted (w ∷ l) e) (H .settings)
+        go [] e = made-holds M (roused-kept (atSemaphore i) [] (omega arith) e) (H .mail) (counted [] e) (H .births) (H .settings)
+        go (w ∷ l) e = made-holds M (roused-kept (atSemaphore i) (w ∷ l) (omega arith) e) (H .mail) (counted (w ∷ l) e) (H .births) (H .settings)
 
     -- a wait that passes semaphore i
-    pub claimed-holds : (i : ℕ) → i < semaphores → s .count i ≡ suc (s .count i - 1) → Holds (record { procs = k .procs; mail = k .mail; count = Counts.claimed (k .count) i; settings = k .settings }) (State.score i (s .count i - 1) s)
+    pub claimed-holds : (i : ℕ) → i < semaphores → s .count i ≡ suc (s .count i - 1) → Holds (record { procs = k .procs; mail = k .mail; count = Counts.claimed (k .count) i; births = k .births; settings = k .settings }) (State.score i (s .count i - 1) s)
     claimed-holds i h e = record {
       procs = H .procs;
       mail = H .mail;
       counts = subst (λ (n : ℕ). Counts.Counted (Counts.claimed (k .count) i) (Plain.claim i n s .next .count)) e (claimed-counted s (H .counts) i h);
+      births = H .births;
       settings = H .settings;
     }
 

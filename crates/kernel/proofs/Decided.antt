@@ -17,12 +17,15 @@ use Rattle.rings.specs.Decides.{Decides}
 use Rattle.rings.specs.Walk.{Stand}
 use Rattle.boxes.specs.Box as Box
 use Rattle.boxes.specs.Box.{num}
-use Rattle.plain.specs.Sizes.{mailboxes, buffers, semaphores}
+use Rattle.plain.specs.Names.{Births}
+use Rattle.plain.specs.Sizes.{processes, mailboxes, buffers, semaphores}
 use Rattle.plain.specs.Sound.{Set}
 use Rattle.plain.specs.State as State
 use Rattle.plain.specs.State.{Message, State, buffersOf}
 use Rattle.procs.specs.Stands as Stands
 use Rattle.mail.specs.Carries as Carries
+use Rattle.names.proofs.Laws.{counts-are}
+use Rattle.names.specs.Counts.{countIn}
 use Rattle.seats.specs.Seats as Seats
 use Rattle.stock.specs.Stock as Stock
 use Rattle.kernel.specs.Holds.{settingsOf, IsSound}
@@ -40,6 +43,10 @@ module _ (k : Kernel) where
   pub not-set : (ok : Bool) → not ok ≡ true → Decides ok (Set (settingsOf k)) → IsSound k → ⊥
   not-set true e a s = true≢false (sym e)
   not-set false e never (s, H, S) = never (subst Set (H .settings) (S .settings))
+
+  pub not-kept : (ok : Bool) → not ok ≡ true → Decides ok (Births (countIn (k .births))) → IsSound k → ⊥
+  not-kept true e a s = true≢false (sym e)
+  not-kept false e never (s, H, S) = never (rw (counts-are (H .births)) (S .births))
 
   pub not-seated : (ok : Bool) (at : List ℕ) → not ok ≡ true → Seats.Decision slice (Stands.numbers (k .procs)) ok at → IsSound k → ⊥
   not-seated true at e a s = true≢false (sym e)
@@ -85,20 +92,21 @@ module _ (k : Kernel) where
               (fits s at (k .mail .full .0) (isHolding (map num (k .mail .boxes .next))) is (holding-is (H .mail)) stands S p h h′);
         }
 
-    sound : {box : ℕ → List Message} {hand : ℕ → Option Message} → Set (settingsOf k) → Stock.Stocked (Carries.numbers (k .mail)) box hand → length (k .count) ≡ semaphores → ((i : ℕ) → getD (k .count) i 0 ≤ 65535) → All at → IsSound k
-    sound {box} {hand} X Q long low F =
-        let s : State = record { procs = r; box = box; hand = hand; count = λ i. getD (k .count) i 0; settings = settingsOf k } in (
+    sound : {box : ℕ → List Message} {hand : ℕ → Option Message} → Set (settingsOf k) → Births (countIn (k .births)) → length (k .births) ≡ processes → Stock.Stocked (Carries.numbers (k .mail)) box hand → length (k .count) ≡ semaphores → ((i : ℕ) → getD (k .count) i 0 ≤ 65535) → All at → IsSound k
+    sound {box} {hand} X Y wide Q long low F =
+        let s : State = record { procs = r; box = box; hand = hand; count = λ i. getD (k .count) i 0; births = countIn (k .births); settings = settingsOf k } in (
           s,
-          record { procs = P .keeps; mail = Q .carries; counts = record { long = long; each = λ i. refl }; settings = refl },
-          whole s at (k .mail .full .0) (isHolding (map num (k .mail .boxes .next))) (full-is (Q .carries) ∙ Q .carries .full) (holding-is (Q .carries)) A X (P .seated) (P .highest) (Q .mail)
+          record { procs = P .keeps; mail = Q .carries; counts = record { long = long; each = λ i. refl }; births = record { long = wide; each = λ p. refl }; settings = refl },
+          whole s at (k .mail .full .0) (isHolding (map num (k .mail .boxes .next))) (full-is (Q .carries) ∙ Q .carries .full) (holding-is (Q .carries)) A X Y (P .seated) (P .highest) (Q .mail)
               (Q .carries .no-more-hands) (λ i. omega (arith, low i, top)) (λ i h. List·getD-eq-default (k .count) 0 (omega arith)) (F .null)
               (λ p h h′. rw (sym (runs r (P .keeps .stands))) (F .others p h h′)),
         )
 
-  pub decided : (set : Bool) → not set ≡ false → Decides set (Set (settingsOf k)) → length (k .count) ≡ semaphores → ((i : ℕ) → getD (k .count) i 0 ≤ 65535) → (ok : Bool) (at : List ℕ) → not ok ≡ false → Seats.Decision slice (Stands.numbers (k .procs)) ok at
+  pub decided : (set : Bool) → not set ≡ false → Decides set (Set (settingsOf k)) → (kept : Bool) → not kept ≡ false → Decides kept (Births (countIn (k .births))) → length (k .births) ≡ processes → length (k .count) ≡ semaphores → ((i : ℕ) → getD (k .count) i 0 ≤ 65535) → (ok : Bool) (at : List ℕ) → not ok ≡ false → Seats.Decision slice (Stands.numbers (k .procs)) ok at
       → (stocked : Bool) → not stocked ≡ false → Stock.Decision (Carries.numbers (k .mail)) stocked → (b : Bool) → Decides b (All at) → Decides b (IsSound k)
-  decided false x X long low ok at e a o g c b f = absurd (true≢false x)
-  decided true x X long low false at e a o g c b f = absurd (true≢false e)
-  decided true x X long low true at e a false g c b f = absurd (true≢false g)
-  decided true x X long low true at e (r, P, A) true g (box, hand, Q) true f = sound P A X Q long low f
-  decided true x X long low true at e (r, P, A) true g (box, hand, Q) false f = λ s. f (all P A s)
+  decided false x X u y Y wide long low ok at e a o g c b f = absurd (true≢false x)
+  decided true x X false y Y wide long low ok at e a o g c b f = absurd (true≢false y)
+  decided true x X true y Y wide long low false at e a o g c b f = absurd (true≢false e)
+  decided true x X true y Y wide long low true at e a false g c b f = absurd (true≢false g)
+  decided true x X true y Y wide long low true at e (r, P, A) true g (box, hand, Q) true f = sound P A X Y wide Q long low f
+  decided true x X true y Y wide long low true at e (r, P, A) true g (box, hand, Q) false f = λ s. f (all P A s)

@@ -7,7 +7,7 @@ use native.Mathlib.Omega.{arith}
 use lib.ListN.{replicate}
 use borrow.Author.Tests.{ne-eqb}
 use Rattle.plain.specs.Calls as Plain
-use Rattle.plain.specs.Sizes.{semaphores}
+use Rattle.plain.specs.Sizes.{processes, semaphores}
 use Rattle.plain.specs.Sound.{Set}
 use Rattle.plain.specs.Start.{startRefusals, freshStart}
 use Rattle.plain.specs.State as State
@@ -22,6 +22,7 @@ use Rattle.procs.specs.Moves as Procs
 use Rattle.mail.proofs.Moves.{fresh-carries}
 use Rattle.mail.specs.Moves as Mail
 use Rattle.counts.proofs.Laws.{fresh-counted}
+use Rattle.names.proofs.Laws as Names
 use Rattle.kernel.specs.Holds.{named, Holds}
 use Rattle.kernel.specs.Judged.{answered, refusedWith, Made}
 use Rattle.kernel.specs.Promise.{Starts}
@@ -31,8 +32,8 @@ use Rattle.kernel.specs.declared.Settings.{Settings}
 use Rattle.kernel.proofs.Changes.{made-holds}
 use Rattle.kernel.proofs.Judging.{runner-is, gives}
 
-pub fresh-holds : {k : Kernel} {x : Settings} → Made k Procs.fresh Mail.freshMail (replicate semaphores 0) x → Holds k (start (named x))
-fresh-holds M = made-holds M fresh-kept fresh-carries fresh-counted refl
+pub fresh-holds : {k : Kernel} {x : Settings} → Made k Procs.fresh Mail.freshMail (replicate semaphores 0) (replicate processes 0) x → Holds k (start (named x))
+fresh-holds M = made-holds M fresh-kept fresh-carries fresh-counted Names.fresh-kept refl
 
 start-proper : (x : State.Settings) → Proper (startRefusals x)
 start-proper x = omega arith

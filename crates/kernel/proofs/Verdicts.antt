@@ -4,13 +4,14 @@ use Prim.Native.Nat.{ℕ}
 use mathlib.Core.Bool.{Bool, not, _||_, Bool·not-not}
 use mathlib.Core.List.{List, [], _∷_}
 use mathlib.Core.Path.{_≡_, refl, _∙_}
-use lib.Dec.{eqb, leb, ltb}
+use lib.Dec.{eqb, ltb}
 use lib.ListN.{length, getD}
 use Rattle.procs.proofs.Looks.{lowest-unused, no-process}
 use Rattle.procs.specs.Moves.{lowestUnused, unusedAt}
 use Rattle.procs.specs.Stands as Stands
 use Rattle.plain.specs.Calls as Plain
 use Rattle.plain.specs.Calls.{on, noClass, noMailbox, noSemaphore}
+use Rattle.plain.specs.Names.{bare, names}
 use Rattle.plain.specs.Sizes.{processes, buffers, longest, highestCount, storeSize}
 use Rattle.plain.specs.State.{State}
 use Rattle.mail.proofs.Looks.{full-box, lowest-free}
@@ -22,6 +23,9 @@ use Rattle.verdicts.specs.declared.Verdict.{Verdict}
 use Rattle.kernel.specs.Holds.{Holds}
 use Rattle.kernel.specs.Facts.{Gathered}
 use Rattle.kernel.specs.Judged.{Judged}
+use Rattle.names.proofs.Laws.{counts-are}
+use Rattle.names.specs.Counts.{countIn}
+use Rattle.plain_laws.proofs.Names.{named}
 use Rattle.promise.specs.Promise.{noStore}
 use Rattle.kernel.specs.declared.Kernel.{Kernel}
 use Rattle.kernel.proofs.Judging.{runner-is, judged-by}
@@ -47,9 +51,9 @@ module _ {k : Kernel} {f : Facts} {v : Verdict} (G : Gathered k f) where
   unfolding Plain.refusals
   judged-create c b e = judged-by (f .sound) (G .sound) e (λ s H. rw (b, lowest-unused (H .procs)) refl)
 
-  pub judged-stop : (p : ℕ) {unused : Bool} → unused ≡ unusedAt (Stands.numbers (k .procs)) p → v ≡ found (on 14 (not (f .sound)) ∷ on 1 (eqb p 0 || (leb processes p || unused)) ∷ []) → Judged (λ s. Plain.refusals s (Plain.stop p)) k v
+  pub judged-stop : (n : ℕ) {p : ℕ} {is-name unused : Bool} → p ≡ bare n → is-name ≡ names (countIn (k .births)) n → unused ≡ unusedAt (Stands.numbers (k .procs)) p → v ≡ found (on 14 (not (f .sound)) ∷ on 1 (eqb p 0 || (not is-name || unused)) ∷ []) → Judged (λ s. Plain.refusals s (Plain.stop n)) k v
   unfolding Plain.refusals
-  judged-stop p b e = judged-by (f .sound) (G .sound) e (λ s H. rw (b, no-process (H .procs) p) refl)
+  judged-stop n a b c e = judged-by (f .sound) (G .sound) e (λ s H. rw (c, a, b, counts-are (H .births), no-process (H .procs) (names (s .births) n) (bare n) (λ z. named (s .births) n z .0)) refl)
 
   pub judged-class : (c : ℕ) → v ≡ found (on 14 (not (f .sound)) ∷ on 5 (eqb (f .runner .0) 0) ∷ noClass c ∷ []) → Judged (λ s. Plain.refusals s (Plain.class c)) k v
   unfolding Plain.refusals

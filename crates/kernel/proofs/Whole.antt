@@ -19,6 +19,7 @@ use Rattle.rings.specs.Ring.{Absent}
 use Rattle.rings.specs.Walk.{Stand}
 use Rattle.plain.specs.Calls.{isEmpty}
 use Rattle.plain.specs.Sizes.{processes, mailboxes, semaphores, queues, highestCount, atMailbox, atSemaphore}
+use Rattle.plain.specs.Names.{Births}
 use Rattle.plain.specs.Sound.{Sound, Set as Settled, Seated, Highest, Mail, In}
 use Rattle.plain.specs.State as State
 use Rattle.plain.specs.State.{Message, State, places}
@@ -62,10 +63,10 @@ module _ (s : State) (at : List ℕ) (full : ℕ) (holding : ℕ → Bool) (is-f
       }
 
   -- where each process fits, sound processes and sound mail make a sound state
-  pub whole : Settled (s .settings) → Seated (s .settings .slice) (s .procs) → Highest (s .procs) → Mail (s .box) (s .hand) → ((p : ℕ) → processes ≤ p → s .hand p ≡ none) → ((i : ℕ) → s .count i ≤ highestCount)
+  pub whole : Settled (s .settings) → Births (s .births) → Seated (s .settings .slice) (s .procs) → Highest (s .procs) → Mail (s .box) (s .hand) → ((p : ℕ) → processes ≤ p → s .hand p ≡ none) → ((i : ℕ) → s .count i ≤ highestCount)
       → ((i : ℕ) → semaphores ≤ i → s .count i ≡ 0) → bits full 0 ≡ false
       → ((p : ℕ) → 1 ≤ p → p < processes → WaitFits (getD at p 0) (eqb p (s .procs .running)) (bits full p) holding (s .count)) → Sound s
-  whole settings seated highest mail no-more-hands counts no-more-counts null fit =
+  whole settings births seated highest mail no-more-hands counts no-more-counts null fit =
       let who : (q p : ℕ) → In (s .procs) q p → (1 ≤ p) × (p < processes) = λ q p o. member (s .settings .slice) (s .procs) seated q p o in
       let there : (q p : ℕ) → In (s .procs) q p → getD at p 0 ≡ suc q = λ q p o. omega (arith, stands .there p q o) in
       let no-hand : (p : ℕ) → 1 ≤ p → p < processes → (HandFits (getD at p 0) (eqb p (s .procs .running)) → ⊥) → s .hand p ≡ none = λ p h h′ n.
@@ -93,4 +94,5 @@ module _ (s : State) (at : List ℕ) (full : ℕ) (holding : ℕ → Bool) (is-f
           counts = λ i p h o. let w = who (atSemaphore i) p o in fit p (w .0) (w .1) .lying .at-semaphore i h (there (atSemaphore i) p o);
         };
         counts = record { most = counts; no-more = no-more-counts };
+        births = births;
       }

@@ -29,9 +29,10 @@ answered k code number = record { state = k; answer = record { code = code; numb
 abbrev pub refusedWith : Kernel → Verdict → Done
 refusedWith k v = record { state = k; answer = record { code = v .code; number = v .number; running = if eqb (v .code) 14 then 0 else k .procs .running .0 } }
 
--- k is made of these processes, this mail, these counts and these settings
-pub record Made (k : Kernel) (p : Procs.Numbers) (m : Mail.Numbers) (c : List ℕ) (x : Settings) : Type 0 where
+-- k is made of these processes, this mail, these counts, these birth counts and these settings
+pub record Made (k : Kernel) (p : Procs.Numbers) (m : Mail.Numbers) (c b : List ℕ) (x : Settings) : Type 0 where
   pub procs : Procs.numbers (k .procs) ≡ p
   pub mail : Mail.numbers (k .mail) ≡ m
   pub count : k .count ≡ c
+  pub births : k .births ≡ b
   pub settings : k .settings ≡ x

@@ -1,5 +1,6 @@
 pub mod Holds
 pub mod Promise
 pub mod Theorems
+pub mod Names
 pub mod Facts
 pub mod Judged

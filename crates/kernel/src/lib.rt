@@ -26,6 +26,7 @@ pub struct Kernel {
     pub procs: Procs,
     pub mail: Mail,
     pub count: [u16; sizes::SEMAPHORES],
+    pub births: [u8; sizes::PROCESSES],
     pub settings: Settings,
 }
 
@@ -50,10 +51,12 @@ impl Kernel {
         let procs = Procs::fresh();
         let mail = Mail::fresh();
         let count = [0u16; sizes::SEMAPHORES];
+        let births = [0u8; sizes::PROCESSES];
         Kernel {
             procs,
             mail,
             count,
+            births,
             settings,
         }
     }
@@ -121,23 +124,30 @@ impl Kernel {
     }
 
     fn with_procs(mut self, next: Procs) -> Kernel
-        ensures { λ r. ⌜ r ≡ record { procs = next; mail = self .mail; count = self .count; settings = self .settings } ⌝ }
+        ensures { λ r. ⌜ r ≡ record { procs = next; mail = self .mail; count = self .count; births = self .births; settings = self .settings } ⌝ }
     {
         self.procs = next;
         self
     }
 
     fn with_mail(mut self, next: Mail) -> Kernel
-        ensures { λ r. ⌜ r ≡ record { procs = self .procs; mail = next; count = self .count; settings = self .settings } ⌝ }
+        ensures { λ r. ⌜ r ≡ record { procs = self .procs; mail = next; count = self .count; births = self .births; settings = self .settings } ⌝ }
     {
         self.mail = next;
         self
     }
 
     fn with_count(mut self, next: [u16; sizes::SEMAPHORES]) -> Kernel
-        ensures { λ r. ⌜ r ≡ record { procs = self .procs; mail = self .mail; count = next; settings = self .settings } ⌝ }
+        ensures { λ r. ⌜ r ≡ record { procs = self .procs; mail = self .mail; count = next; births = self .births; settings = self .settings } ⌝ }
     {
         self.count = next;
+        self
+    }
+
+    fn with_births(mut self, next: [u8; sizes::PROCESSES]) -> Kernel
+        ensures { λ r. ⌜ r ≡ record { procs = self .procs; mail = self .mail; count = self .count; births = next; settings = self .settings } ⌝ }
+    {
+        self.births = next;
         self
     }
 

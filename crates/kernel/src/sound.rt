@@ -1,4 +1,4 @@
-// Whether a state is sound, whatever stands in its fields: its settings, its processes, its mail, and what each asks of the other.
+// Whether a state is sound, whatever stands in its fields: its settings, its birth counts, its processes, its mail, and what each asks of the other.
 ghost use Rattle.rings.specs.Decides.{Decides};
 ghost use Rattle.kernel.specs.Holds.{IsSound};
 use crate::Kernel;
@@ -9,6 +9,10 @@ impl Kernel {
     {
         let settings = self.settings;
         if !settings.may_be_set() {
+            return false;
+        }
+        let births = self.births;
+        if !names::may_be_kept(births) {
             return false;
         }
         let k = self.procs;

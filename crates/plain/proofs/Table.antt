@@ -1,4 +1,4 @@
--- "Numbers to try at the edges": P1 to P10 as one table under one statement, and examples of what that table alone does not show.
+-- "Numbers to try at the edges": P1 to P10 as one table under one statement, read with names, and examples of what that table alone does not show.
 -- Each script starts fresh, with 3 named where 01 was written for 3. Assumes nothing.
 use Prim.Native.Nat.{ℕ}
 use mathlib.Core.Path.{_≡_, refl}
@@ -7,12 +7,13 @@ use native.Mathlib.Omega.{arith}
 use lib.ListN.{replicate}
 use Rattle.lists.specs.Lists.{total, lowest}
 use Rattle.plain.specs.Sizes.{capacity, bufferSize, longest, highestCount}
-use Rattle.plain.specs.State.{State, fresh, spots, held, freeProcess, freeBuffer}
+use Rattle.plain.specs.State.{State, fresh, born, spots, held, freeProcess, freeBuffer}
+use Rattle.plain.specs.Names.{raised, name, bare, names}
 use Rattle.plain.specs.Runs.{choose, chooseBelow, join, standDown, makeReady, goTo, remove, halt}
 use Rattle.plain.specs.Calls.{Call, Answer, create, stop, end, yield, class, tick, send, receive, read, release, signal, wait, perform, refusals, step, answers, after}
 use Rattle.plain.specs.Start.{longestSlice, sliceOf, freshStart}
 use Rattle.plain.specs.Listing.{Row, row, queueOf}
-use Rattle.plain.specs.Why.{ready, semaphore, Says, reasonIn, reason, Numbers, numbers}
+use Rattle.plain.specs.Why.{ready, semaphore, Says, reasonIn, reason, why, Numbers, numbers}
 
 -- a call, and the code, number and running process that it answers
 abbrev pub Line : Type 0
@@ -30,7 +31,7 @@ shown a = (a .0 .code, a .0 .number, a .0 .running)
 
 -- what the script of a row answers from s on, and how far semaphore 15 counts after it; and what the row says of both
 unfoldable pub got : State → List Line → List (ℕ × ℕ × ℕ) × ℕ
-unfolding answers after step refusals perform freshStart choose chooseBelow join standDown makeReady goTo remove halt spots total lowest held freeProcess freeBuffer capacity bufferSize longest highestCount longestSlice
+unfolding answers after step refusals perform freshStart raised name bare names choose chooseBelow join standDown makeReady goTo remove halt spots total lowest held freeProcess freeBuffer capacity bufferSize longest highestCount longestSlice
 got s l = (map shown (answers s (script l)), (after s (script l)) .count 15)
 
 abbrev pub told : List Line → List (ℕ × ℕ × ℕ) × ℕ
@@ -44,24 +45,24 @@ table =
     -- P1
     (tick ⇒ (0, 0, 0) ∷ [])
     -- P2
-    ∷ (create 2 ⇒ (0, 1, 1) ∷ create 2 ⇒ (0, 2, 1) ∷ tick ⇒ (0, 0, 1) ∷ tick ⇒ (0, 0, 1) ∷ tick ⇒ (0, 0, 2) ∷ [])
+    ∷ (create 2 ⇒ (0, 257, 1) ∷ create 2 ⇒ (0, 258, 1) ∷ tick ⇒ (0, 0, 1) ∷ tick ⇒ (0, 0, 1) ∷ tick ⇒ (0, 0, 2) ∷ [])
     -- P3
-    ∷ (create 2 ⇒ (0, 1, 1) ∷ create 2 ⇒ (0, 2, 1) ∷ tick ⇒ (0, 0, 1) ∷ create 4 ⇒ (0, 3, 3) ∷ end ⇒ (0, 0, 1) ∷ tick ⇒ (0, 0, 1) ∷ tick ⇒ (0, 0, 2) ∷ [])
+    ∷ (create 2 ⇒ (0, 257, 1) ∷ create 2 ⇒ (0, 258, 1) ∷ tick ⇒ (0, 0, 1) ∷ create 4 ⇒ (0, 259, 3) ∷ end ⇒ (0, 0, 1) ∷ tick ⇒ (0, 0, 1) ∷ tick ⇒ (0, 0, 2) ∷ [])
     -- P4
-    ∷ (create 4 ⇒ (0, 1, 1) ∷ [])
+    ∷ (create 4 ⇒ (0, 257, 1) ∷ [])
     ∷ (create 5 ⇒ (2, 0, 0) ∷ [])
     -- P5
-    ∷ (create 1 ⇒ (0, 1, 1) ∷ receive 0 ⇒ (32, 0, 0) ∷ send 0 abc ⇒ (0, 0, 1) ∷ [])
+    ∷ (create 1 ⇒ (0, 257, 1) ∷ receive 0 ⇒ (32, 0, 0) ∷ send 0 abc ⇒ (0, 0, 1) ∷ [])
     -- P6
-    ∷ (create 3 ⇒ (0, 1, 1) ∷ create 3 ⇒ (0, 2, 1) ∷ yield ⇒ (0, 0, 2) ∷ yield ⇒ (0, 0, 1) ∷ [])
+    ∷ (create 3 ⇒ (0, 257, 1) ∷ create 3 ⇒ (0, 258, 1) ∷ yield ⇒ (0, 0, 2) ∷ yield ⇒ (0, 0, 1) ∷ [])
     -- P7
-    ∷ (create 1 ⇒ (0, 1, 1) ∷ stop 1 ⇒ (0, 0, 0) ∷ create 1 ⇒ (0, 1, 1) ∷ [])
+    ∷ (create 1 ⇒ (0, 257, 1) ∷ stop 257 ⇒ (0, 0, 0) ∷ create 1 ⇒ (0, 513, 1) ∷ [])
     -- P8
-    ∷ (create 0 ⇒ (0, 1, 1) ∷ class 0 ⇒ (0, 0, 1) ∷ class 4 ⇒ (0, 0, 1) ∷ [])
+    ∷ (create 0 ⇒ (0, 257, 1) ∷ class 0 ⇒ (0, 0, 1) ∷ class 4 ⇒ (0, 0, 1) ∷ [])
     -- P9
     ∷ (stop 0 ⇒ (1, 0, 0) ∷ stop 32 ⇒ (1, 0, 0) ∷ yield ⇒ (5, 0, 0) ∷ [])
     -- P10
-    ∷ (create 1 ⇒ (0, 1, 1) ∷ wait 15 ⇒ (32, 0, 0) ∷ signal 15 ⇒ (0, 0, 1) ∷ [])
+    ∷ (create 1 ⇒ (0, 257, 1) ∷ wait 15 ⇒ (32, 0, 0) ∷ signal 15 ⇒ (0, 0, 1) ∷ [])
     ∷ []
 
 -- "Older units and stored replay scripts were tuned to 3; each place that relied on it now names 3"
@@ -75,7 +76,7 @@ table-holds = refl
 -- "5 when none is named": the running process after five ticks is 1 1 1 1 2
 abbrev pub untuned : List (List Line)
 untuned =
-    (create 2 ⇒ (0, 1, 1) ∷ create 2 ⇒ (0, 2, 1) ∷ tick ⇒ (0, 0, 1) ∷ tick ⇒ (0, 0, 1) ∷ tick ⇒ (0, 0, 1) ∷ tick ⇒ (0, 0, 1) ∷ tick ⇒ (0, 0, 2) ∷ [])
+    (create 2 ⇒ (0, 257, 1) ∷ create 2 ⇒ (0, 258, 1) ∷ tick ⇒ (0, 0, 1) ∷ tick ⇒ (0, 0, 1) ∷ tick ⇒ (0, 0, 1) ∷ tick ⇒ (0, 0, 1) ∷ tick ⇒ (0, 0, 2) ∷ [])
     ∷ []
 
 pub untuned-holds : map (got fresh) untuned ≡ map told untuned
@@ -96,14 +97,39 @@ mistakes =
     -- "A message of 512 bytes is taken, 513 gives 6. Mailbox 16 with 513 bytes gives 3."
     (send 0 (replicate 512 0) ⇒ (0, 0, 0) ∷ send 0 (replicate 513 0) ⇒ (6, 0, 0) ∷ send 16 (replicate 513 0) ⇒ (3, 0, 0) ∷ [])
     -- a message that a waiter got is no longer queued
-    ∷ (create 1 ⇒ (0, 1, 1) ∷ receive 0 ⇒ (32, 0, 0) ∷ send 0 abc ⇒ (0, 0, 1) ∷ read 3 ⇒ (0, 3, 1) ∷ release ⇒ (0, 0, 1) ∷ receive 0 ⇒ (32, 0, 0) ∷ [])
+    ∷ (create 1 ⇒ (0, 257, 1) ∷ receive 0 ⇒ (32, 0, 0) ∷ send 0 abc ⇒ (0, 0, 1) ∷ read 3 ⇒ (0, 3, 1) ∷ release ⇒ (0, 0, 1) ∷ receive 0 ⇒ (32, 0, 0) ∷ [])
     -- a stopped process leaves nothing in the hand of the next of its number
-    ∷ (create 1 ⇒ (0, 1, 1) ∷ send 0 abc ⇒ (0, 0, 1) ∷ receive 0 ⇒ (0, 3, 1) ∷ stop 1 ⇒ (0, 0, 0) ∷ create 1 ⇒ (0, 1, 1) ∷ read 3 ⇒ (8, 0, 1) ∷ [])
+    ∷ (create 1 ⇒ (0, 257, 1) ∷ send 0 abc ⇒ (0, 0, 1) ∷ receive 0 ⇒ (0, 3, 1) ∷ stop 257 ⇒ (0, 0, 0) ∷ create 1 ⇒ (0, 513, 1) ∷ read 3 ⇒ (8, 0, 1) ∷ [])
     ∷ []
 
 pub mistakes-shown : map (got tuned) mistakes ≡ map told mistakes
 unfolding got
 mistakes-shown = refl
+
+-- Request 4: a name is the number and 256 times its births, and an earlier one is refused, and so is a bare number; a count of 255 goes back to 0.
+abbrev pub screens : List (List Line)
+screens =
+    (create 1 ⇒ (0, 257, 1) ∷ stop 257 ⇒ (0, 0, 0) ∷ stop 257 ⇒ (1, 0, 0) ∷ create 1 ⇒ (0, 513, 1) ∷ stop 257 ⇒ (1, 0, 1) ∷ stop 1 ⇒ (1, 0, 1) ∷ stop 769 ⇒ (1, 0, 1) ∷ stop 513 ⇒ (0, 0, 0) ∷ [])
+    ∷ []
+
+pub screens-shown : map (got fresh) screens ≡ map told screens
+unfolding got
+screens-shown = refl
+
+abbrev pub returns : List (List Line)
+returns = (create 1 ⇒ (0, 1, 1) ∷ stop 257 ⇒ (1, 0, 1) ∷ stop 1 ⇒ (0, 0, 0) ∷ create 1 ⇒ (0, 257, 1) ∷ []) ∷ []
+
+pub returns-shown : map (got (born 1 255 fresh)) returns ≡ map told returns
+unfolding got
+returns-shown = refl
+
+-- what `why` answers to a name, after 1 was born once and stopped: its last name is taken, "why 256 is 1", and so are 0 and the bare number of one not born yet
+abbrev pub asked : List Call → ℕ → ℕ
+asked cs n = why (after fresh cs) n .answer .code
+
+pub asked-shown : map (asked (create 1 ∷ stop 257 ∷ [])) (0 ∷ 256 ∷ 1 ∷ 257 ∷ 513 ∷ 2 ∷ 258 ∷ 31 ∷ 32 ∷ 288 ∷ 65537 ∷ []) ≡ 0 ∷ 1 ∷ 1 ∷ 0 ∷ 1 ∷ 0 ∷ 1 ∷ 0 ∷ 1 ∷ 1 ∷ 1 ∷ []
+unfolding got why
+asked-shown = refl
 
 -- The listing while 1 runs with a message in hand and two ticks left, 2 and 3 are ready, 4 waits at semaphore 15 and 5 at mailbox 7: the rows of 0 to 6.
 abbrev pub listed : List Call

@@ -8,7 +8,8 @@ use lib.ListN.{length}
 use lib.Dec.{ltb, leb, eqb}
 use Rattle.lists.specs.Lists.{if_then_else_}
 use Rattle.plain.specs.Sizes.{processes, classes, mailboxes, capacity, buffers, longest, semaphores, highestCount, atMailbox, atSemaphore}
-use Rattle.plain.specs.State.{Message, Procs, State, level, line, rank, left, move, give, fill, score, unused, freeProcess, freeBuffer}
+use Rattle.plain.specs.State.{Message, Procs, State, level, line, rank, left, move, give, fill, score, born, unused, freeProcess, freeBuffer}
+use Rattle.plain.specs.Names.{raised, name, bare, names}
 use Rattle.plain.specs.Runs.{makeReady, goTo, halt}
 
 pub data Call : Type 0 where
@@ -65,9 +66,9 @@ bytesIn (some x) = x .bytes
 
 -- ---- what each call does, where nothing refuses it
 
--- "the lowest unused number becomes a process and is made ready"
+-- "the lowest unused number becomes a process and is made ready", its birth count "raised by 1"
 abbrev pub created : ℕ → ℕ → State → State
-created p c s = move (makeReady (s .settings .slice) p (rank p c (s .procs))) s
+created p c s = move (makeReady (s .settings .slice) p (rank p c (s .procs))) (born p (raised (s .births p)) s)
 
 -- "p leaves its place, its hand's buffer becomes free, its number unused. Choose if it ran."
 abbrev pub stopped : ℕ → State → State
@@ -119,8 +120,8 @@ claim k zero s = waitAt (atSemaphore k) s
 claim k (suc n) s = done 0 (score k n s)
 
 unfoldable pub perform : State → Call → Outcome
-perform s (create c) = let p : ℕ = freeProcess (s .procs) in done p (created p c s)
-perform s (stop p) = done 0 (stopped p s)
+perform s (create c) = let p : ℕ = freeProcess (s .procs) in let next : State = created p c s in done (name (next .births) p) next
+perform s (stop n) = done 0 (stopped (bare n) s)
 perform s end = done 0 (stopped (caller s) s)
 perform s yield = done 0 (move (yielded (s .settings .slice) (s .procs)) s)
 perform s (class c) = done 0 (move (regraded (s .settings .slice) c (s .procs)) s)
@@ -143,9 +144,9 @@ pub record Refusal : Type 0 where
 abbrev pub on : ℕ → Bool → Refusal
 on k t = record { code = k; number = 0; holds = t }
 
--- "1: process is 0, over 31 or unused"
+-- "1: process is 0, over 31 or unused", and "1 also for a wrong birth count, same place": n is a name
 abbrev pub noProcess : ℕ → State → Refusal
-noProcess p s = on 1 (eqb p 0 || (leb processes p || unused (s .procs) p))
+noProcess n s = on 1 (eqb (bare n) 0 || (not (names (s .births) n) || unused (s .procs) (bare n)))
 
 -- "2: class over 4"
 abbrev pub noClass : ℕ → Refusal
@@ -197,7 +198,7 @@ fullCount k s = on 13 (eqb (s .count k) highestCount)
 
 unfoldable pub refusals : State → Call → List Refusal
 refusals s (create c) = noClass c ∷ noUnused s ∷ []
-refusals s (stop p) = noProcess p s ∷ []
+refusals s (stop n) = noProcess n s ∷ []
 refusals s end = idle s ∷ []
 refusals s yield = idle s ∷ []
 refusals s (class c) = idle s ∷ noClass c ∷ []

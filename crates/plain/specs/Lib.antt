@@ -1,5 +1,6 @@
 pub mod Sizes
 pub mod State
+pub mod Names
 pub mod Runs
 pub mod Calls
 pub mod Start

@@ -9,6 +9,7 @@ use lib.ListN.{length}
 use Rattle.lists.specs.Lists.{occurs}
 use Rattle.plain.specs.Sizes.{processes, classes, mailboxes, capacity, buffers, longest, semaphores, highestCount, atMailbox, atSemaphore, queues}
 use Rattle.plain.specs.State.{Message, Procs, Settings, State, level, places, held}
+use Rattle.plain.specs.Names.{Births}
 use Rattle.plain.specs.Start.{longestSlice}
 
 -- p stands in queue q; who stands in none and does not run is unused
@@ -90,3 +91,4 @@ pub record Sound (s : State) : Type 0 where
   pub hands : Hands (s .procs) (s .hand)
   pub waits : Waits (s .procs) (s .box) (s .count)
   pub counts : Counts (s .count)
+  pub births : Births (s .births)

@@ -24,17 +24,18 @@ pub record Procs : Type 0 where
 pub record Settings : Type 0 where
   pub slice : ℕ
 
--- And each process's hand, each mailbox's messages from first to last, each semaphore's count.
+-- And each process's hand, each mailbox's messages from first to last, each semaphore's count, and each number's birth count (request 4).
 pub record State : Type 0 where
   pub procs : Procs
   pub hand : ℕ → Option Message
   pub box : ℕ → List Message
   pub count : ℕ → ℕ
+  pub births : ℕ → ℕ
   pub settings : Settings
 
--- "A fresh kernel: 0 runs, the others unused, all queues and mailboxes empty, all counts 0."
+-- "A fresh kernel: 0 runs, the others unused, all queues and mailboxes empty, all counts 0." Request 4: "0 at first"
 abbrev pub start : Settings → State
-start x = record { procs = record { running = 0; queue = λ q. []; class = λ p. 0; ticks = λ p. 0 }; hand = λ p. none; box = λ m. []; count = λ k. 0; settings = x }
+start x = record { procs = record { running = 0; queue = λ q. []; class = λ p. 0; ticks = λ p. 0 }; hand = λ p. none; box = λ m. []; count = λ k. 0; births = λ p. 0; settings = x }
 
 -- request 3: "5 when none is named"
 abbrev pub usual : Settings
@@ -71,19 +72,23 @@ left p t s = record { running = s .running; queue = s .queue; class = s .class; 
 
 -- the processes stand as in r
 abbrev pub move : Procs → State → State
-move r s = record { procs = r; hand = s .hand; box = s .box; count = s .count; settings = s .settings }
+move r s = record { procs = r; hand = s .hand; box = s .box; count = s .count; births = s .births; settings = s .settings }
 
 -- p has h in hand
 abbrev pub give : ℕ → Option Message → State → State
-give p h s = record { procs = s .procs; hand = put (s .hand) p h; box = s .box; count = s .count; settings = s .settings }
+give p h s = record { procs = s .procs; hand = put (s .hand) p h; box = s .box; count = s .count; births = s .births; settings = s .settings }
 
 -- mailbox m holds l
 abbrev pub fill : ℕ → List Message → State → State
-fill m l s = record { procs = s .procs; hand = s .hand; box = put (s .box) m l; count = s .count; settings = s .settings }
+fill m l s = record { procs = s .procs; hand = s .hand; box = put (s .box) m l; count = s .count; births = s .births; settings = s .settings }
 
 -- semaphore k counts n
 abbrev pub score : ℕ → ℕ → State → State
-score k n s = record { procs = s .procs; hand = s .hand; box = s .box; count = put (s .count) k n; settings = s .settings }
+score k n s = record { procs = s .procs; hand = s .hand; box = s .box; count = put (s .count) k n; births = s .births; settings = s .settings }
+
+-- number p has birth count b
+abbrev pub born : ℕ → ℕ → State → State
+born p b s = record { procs = s .procs; hand = s .hand; box = s .box; count = s .count; births = put (s .births) p b; settings = s .settings }
 
 -- ---- who stands where: unused and free are those who stand nowhere
 

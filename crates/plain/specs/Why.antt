@@ -5,11 +5,12 @@ use mathlib.Core.Bool.{Bool, not, _&&_}
 use mathlib.Core.List.{List, [], _∷_, _++_}
 use mathlib.Core.Logic.{_≢_, _⊎_}
 use mathlib.Core.Path.{_≡_}
-use lib.Dec.{ltb, leb, eqb}
+use lib.Dec.{ltb, eqb}
 use lib.ListN.{length}
 use Rattle.lists.specs.Lists.{if_then_else_, ahead}
-use Rattle.plain.specs.Sizes.{processes, classes, mailboxes, semaphores, atMailbox, atSemaphore, queues}
+use Rattle.plain.specs.Sizes.{classes, mailboxes, semaphores, atMailbox, atSemaphore, queues}
 use Rattle.plain.specs.State.{Procs, State, level, places}
+use Rattle.plain.specs.Names.{bare, names}
 use Rattle.plain.specs.Calls.{Refusal, Outcome, on, done, judge}
 use Rattle.plain.specs.Sound.{In}
 use Rattle.plain.specs.Listing.{queueOf}
@@ -68,12 +69,12 @@ reason s p =
     else (if eqb p 0 then behind (s .procs .running)
     else reasonIn (s .procs) q (ahead p (s .procs .queue q)))
 
--- "over 31 gives 1": 0 is a process here
-abbrev pub noSuch : ℕ → Refusal
-noSuch p = on 1 (leb processes p)
+-- "over 31 gives 1", and so does a wrong birth count; 0 is a process here, and so is one that is unused, by the name that was its last
+abbrev pub noSuch : ℕ → State → Refusal
+noSuch n s = on 1 (not (names (s .births) n))
 
 unfoldable pub why : State → ℕ → Outcome
-why s p = judge (noSuch p ∷ []) s (done 0 s)
+why s n = judge (noSuch n s ∷ []) s (done 0 s)
 
 -- ---- in numbers, for the world outside
 
@@ -95,4 +96,4 @@ numbers (behind q) = numbered 5 q 0
 
 -- what is given beside an answer: the reason, or zeros where the question is refused
 abbrev pub told : State → ℕ → Reason
-told s p = if eqb (why s p .answer .code) 0 then reason s p else unused
+told s n = if eqb (why s n .answer .code) 0 then reason s (bare n) else unused

@@ -2,25 +2,27 @@
 -- Assumes nothing.
 use Prim.Native.Nat.{ℕ, zero, suc, _-_, _≤_, _<_}
 use mathlib.Core.Path.{_≡_, refl, sym, ap, _∙_, subst, fun-ext}
-use mathlib.Core.Bool.{true, false, _||_}
+use mathlib.Core.Bool.{true, false, not, _||_}
 use mathlib.Core.Logic.{_≢_, ⊎-elim}
 use mathlib.Core.List.{List, [], _∷_, _++_}
 use native.Mathlib.Omega.{arith}
 use lib.Dec.{ltb, leb, eqb}
-use borrow.Author.Tests.{ltb-true, ltb-false, leb-false, eqb-true, eqb-false, eq-eqb, ne-eqb}
+use borrow.Author.Tests.{ltb-true, ltb-false, leb-false, eqb-true, eqb-false, eq-eqb, ne-eqb, not-false}
 use Rattle.lists.specs.Lists.{put, occurs, without, lowest}
 use Rattle.lists.proofs.Laws.{either, or-false, same?, put-same, put-other, put-cases, one-same, one-other, without-absent, taken-out, lowest-passes}
 use Rattle.plain.specs.Sizes.{processes, classes, queues}
 use Rattle.plain.specs.State.{Procs, State, level, run, lines, line, rank, left, places, unused, freeProcess}
+use Rattle.plain.specs.Names.{bare, names}
 use Rattle.plain.specs.Runs.{choose, standDown, join, pick, makeReady, goTo, remove, halt}
-use Rattle.plain.specs.Calls.{Outcome, Refusal, judge, yielded, regraded, spent, ticked}
+use Rattle.plain.specs.Calls.{Outcome, Refusal, noProcess, judge, yielded, regraded, spent, ticked}
 use Rattle.plain.specs.Sound.{Seated, Highest, Sound, In}
 use Rattle.plain_laws.specs.Moves.{rid, leave, toRear, settle, Away, stay, spend, again, rear, pause}
 use Rattle.plain_laws.specs.Moves
 use Rattle.plain_laws.specs.History.{Passed}
 use Rattle.plain_laws.proofs.Places.{runs-once}
-use Rattle.plain_laws.proofs.Seats.{member, head-in, runner-away, runner-range, one-queue, queue-once, queued-rests, nowhere}
+use Rattle.plain_laws.proofs.Seats.{member, head-in, queued, runner-away, runner-range, one-queue, queue-once, queued-rests, nowhere}
 use Rattle.plain_laws.proofs.Settle.{choose-is, down-idle, down-front, settle-still}
+use Rattle.plain_laws.proofs.Names.{named}
 use Rattle.plain_laws.proofs.Frames.{slice-some, Nowhere, Nobody, rear-framed, class-framed, gone-framed, same-framed, only, Shifted, shift}
 
 -- what holds of the state if the call is refused, and of the call's own result if it is not
@@ -152,14 +154,15 @@ module _ (n : ℕ) (s : Procs) (k : Seated n s) (hi : Highest s) where
 
 -- ---- each accepted call
 
--- a number that names a process
-pub somebody : (p : ℕ) (s : State) → (eqb p 0 || (leb processes p || unused (s .procs) p)) ≡ false → (1 ≤ p) × (p < processes) × (1 ≤ places (s .procs) p)
-somebody p s e =
-    let a = or-false (eqb p 0) (leb processes p || unused (s .procs) p) e in
-    let b = or-false (leb processes p) (unused (s .procs) p) (a .1) in
+-- the number in a name that no call refuses
+pub somebody : (n : ℕ) (s : State) → noProcess n s .holds ≡ false → (1 ≤ bare n) × (bare n < processes) × (1 ≤ places (s .procs) (bare n))
+somebody n s e =
+    let p : ℕ = bare n in
+    let a = or-false (eqb p 0) (not (names (s .births) n) || unused (s .procs) p) e in
+    let b = or-false (not (names (s .births) n)) (unused (s .procs) p) (a .1) in
     let zero? : p ≢ 0 = eqb-false p 0 (a .0) in
     let place? : places (s .procs) p ≢ 0 = eqb-false (places (s .procs) p) 0 (b .1) in
-    (omega arith, leb-false processes p (b .0), omega arith)
+    (omega arith, named (s .births) n (not-false (names (s .births) n) (b .0)) .0, omega arith)
 
 -- the number that the next process gets
 pub next-process : (s : Procs) → eqb (freeProcess s) processes ≡ false → (1 ≤ freeProcess s) × (freeProcess s < processes) × (places s (freeProcess s) ≡ 0)
@@ -172,37 +175,45 @@ module _ (s : State) (k : Sound s) where
   abbrev n : ℕ
   n = s .settings .slice
 
+  -- nobody newly waits, nobody is newly unused, and these are newly used
+  abbrev Brings : (ℕ → Type 0) → ℕ → Procs → Type 0
+  Brings Begins d r′ = Shifted n (s .procs) d Nowhere Nobody Begins r′
+
   abbrev Calm : ℕ → Procs → Type 0
-  Calm d r′ = Shifted n (s .procs) d Nowhere Nobody r′
+  Calm d r′ = Brings Nobody d r′
+
+  -- who runs is used
+  runner-stands : places (s .procs) (s .procs .running) ≡ 0 → ⊥
+  runner-stands z = omega (arith, runs-once (s .procs))
 
   still : settle (s .procs) ≡ s .procs
   still = settle-still (s .procs) (k .seated .in-class) (k .highest)
 
   -- nothing moves
   pub stayed : Calm 0 (s .procs)
-  stayed = shift n (s .procs) 0 Nowhere Nobody (s .procs) (s .procs) (slice-some s k) (k .seated) (only stay) (same-framed (s .procs) (s .procs .ticks)) (sym still)
+  stayed = shift n (s .procs) 0 Nowhere Nobody Nobody (s .procs) (s .procs) (slice-some s k) (k .seated) (only stay) (same-framed (s .procs) (s .procs .ticks)) (sym still)
 
   -- p goes to the rear of class c
-  readied : (p c : ℕ) (r′ : Procs) → 1 ≤ p → p < processes → Away (s .procs) p → c < classes → r′ ≡ settle (toRear c p c n (s .procs)) → Calm 0 r′
-  readied p c r′ h h′ away hc e = shift n (s .procs) 0 Nowhere Nobody r′ (toRear c p c n (s .procs)) (slice-some s k) (k .seated) (only (rear p c h h′ away hc)) (class-framed c p c n (s .procs) hc h) e
+  readied : (Begins : ℕ → Type 0) (p c : ℕ) (r′ : Procs) → 1 ≤ p → p < processes → (places (s .procs) p ≡ 0 → Begins p) → Away (s .procs) p → c < classes → r′ ≡ settle (toRear c p c n (s .procs)) → Brings Begins 0 r′
+  readied Begins p c r′ h h′ new away hc e = shift n (s .procs) 0 Nowhere Nobody Begins r′ (toRear c p c n (s .procs)) (slice-some s k) (k .seated) (only (rear p c h h′ away hc)) (class-framed Begins c p c n (s .procs) hc h new) e
 
-  pub made : (c : ℕ) → leb classes c ≡ false → eqb (freeProcess (s .procs)) processes ≡ false → Calm 0 (makeReady n (freeProcess (s .procs)) (rank (freeProcess (s .procs)) c (s .procs)))
+  pub made : (c : ℕ) → leb classes c ≡ false → eqb (freeProcess (s .procs)) processes ≡ false → Brings (λ x. x ≡ freeProcess (s .procs)) 0 (makeReady n (freeProcess (s .procs)) (rank (freeProcess (s .procs)) c (s .procs)))
   made c e e′ =
       let y = next-process (s .procs) e′ in
       let p : ℕ = freeProcess (s .procs) in
-      readied p c (makeReady n p (rank p c (s .procs))) (y .0) (y .1) (λ d b. nowhere n (s .procs) (k .seated) p d (y .2)) (leb-false classes c e)
+      readied _ p c (makeReady n p (rank p c (s .procs))) (y .0) (y .1) (λ z. refl) (λ d b. nowhere n (s .procs) (k .seated) p d (y .2)) (leb-false classes c e)
       (create-settles n (s .procs) (k .seated) (k .highest) p c (y .2) (leb-false classes c e))
 
   pub roused : (q w : ℕ) (l : List ℕ) → classes ≤ q → s .procs .queue q ≡ w ∷ l → Calm 0 (makeReady n w (line q l (s .procs)))
   roused q w l hq e =
       let here : In (s .procs) q w = head-in n (s .procs) (k .seated) q w l e in
       let who = member n (s .procs) (k .seated) q w here in
-      readied w (s .procs .class w) (makeReady n w (line q l (s .procs))) (who .0) (who .1) (λ d b. one-queue n (s .procs) (k .seated) q d w here (omega arith)) (k .seated .in-class w)
+      readied Nobody w (s .procs .class w) (makeReady n w (line q l (s .procs))) (who .0) (who .1) (λ z. omega (arith, queued n (s .procs) (k .seated) q w here)) (λ d b. one-queue n (s .procs) (k .seated) q d w here (omega arith)) (k .seated .in-class w)
       (wake-settles n (s .procs) (k .seated) (k .highest) q w l hq e)
 
   graded : (c : ℕ) → s .procs .running ≢ 0 → c < classes → Calm 0 (goTo n c (rank (s .procs .running) c (s .procs)))
   graded c z hc =
-      readied (s .procs .running) c (goTo n c (rank (s .procs .running) c (s .procs))) (omega arith) (runner-range n (s .procs) (k .seated)) (λ d b. runner-away n (s .procs) (k .seated) d) hc
+      readied Nobody (s .procs .running) c (goTo n c (rank (s .procs .running) c (s .procs))) (omega arith) (runner-range n (s .procs) (k .seated)) runner-stands (λ d b. runner-away n (s .procs) (k .seated) d) hc
       (goTo-settles n c c (s .procs) (runner-away n (s .procs) (k .seated)))
 
   pub yields : s .procs .running ≢ 0 → Calm 0 (yielded n (s .procs))
@@ -211,29 +222,29 @@ module _ (s : State) (k : Sound s) where
   pub grades : (c : ℕ) → s .procs .running ≢ 0 → c < classes → Calm 0 (regraded n c (s .procs))
   grades c z hc = ⊎-elim (λ e. rw e stayed) (λ e. rw e (graded c z hc)) (either (eqb c (s .procs .class (s .procs .running))))
 
-  pub halted : (p : ℕ) → 1 ≤ p → Shifted n (s .procs) 0 Nowhere (λ x. x ≡ p) (halt p (s .procs))
+  pub halted : (p : ℕ) → 1 ≤ p → Shifted n (s .procs) 0 Nowhere (λ x. x ≡ p) Nobody (halt p (s .procs))
   halted p h =
-      shift n (s .procs) 0 Nowhere (λ x. x ≡ p) (halt p (s .procs)) (leave p 0 0 (s .procs)) (slice-some s k) (k .seated) (only (Moves.halt p h)) (gone-framed p (s .procs))
+      shift n (s .procs) 0 Nowhere (λ x. x ≡ p) Nobody (halt p (s .procs)) (leave p 0 0 (s .procs)) (slice-some s k) (k .seated) (only (Moves.halt p h)) (gone-framed p (s .procs) h)
       (halt-settles n (s .procs) (k .seated) (k .highest) p)
 
-  pub paused : (q : ℕ) → s .procs .running ≢ 0 → classes ≤ q → q < queues → Shifted n (s .procs) 0 (λ i x. (i ≡ q) × (x ≡ s .procs .running)) Nobody (goTo n q (s .procs))
+  pub paused : (q : ℕ) → s .procs .running ≢ 0 → classes ≤ q → q < queues → Shifted n (s .procs) 0 (λ i x. (i ≡ q) × (x ≡ s .procs .running)) Nobody Nobody (goTo n q (s .procs))
   paused q z h₅ hq =
       let c : ℕ = s .procs .class (s .procs .running) in
-      shift n (s .procs) 0 (λ i x. (i ≡ q) × (x ≡ s .procs .running)) Nobody (goTo n q (s .procs)) (toRear q (s .procs .running) c n (s .procs)) (slice-some s k) (k .seated) (only (pause q z h₅ hq))
-      (rear-framed q (s .procs .running) c n (s .procs) hq (omega arith)) (wait-settles n (s .procs) (k .seated) (k .highest) q)
+      shift n (s .procs) 0 (λ i x. (i ≡ q) × (x ≡ s .procs .running)) Nobody Nobody (goTo n q (s .procs)) (toRear q (s .procs .running) c n (s .procs)) (slice-some s k) (k .seated) (only (pause q z h₅ hq))
+      (rear-framed Nobody q (s .procs .running) c n (s .procs) hq (omega arith) runner-stands) (wait-settles n (s .procs) (k .seated) (k .highest) q)
 
   spends : (t : ℕ) → s .procs .running ≢ 0 → s .procs .ticks (s .procs .running) - 1 ≡ t → Calm 1 (spent n t (s .procs))
   spends zero z e =
       let c : ℕ = s .procs .class (s .procs .running) in
-      shift n (s .procs) 1 Nowhere Nobody (yielded n (s .procs)) (toRear c (s .procs .running) c n (s .procs)) (slice-some s k) (k .seated) (only (again z))
-      (class-framed c (s .procs .running) c n (s .procs) (k .seated .in-class (s .procs .running)) (omega arith)) (wait-settles n (s .procs) (k .seated) (k .highest) c)
+      shift n (s .procs) 1 Nowhere Nobody Nobody (yielded n (s .procs)) (toRear c (s .procs .running) c n (s .procs)) (slice-some s k) (k .seated) (only (again z))
+      (class-framed Nobody c (s .procs .running) c n (s .procs) (k .seated .in-class (s .procs .running)) (omega arith) runner-stands) (wait-settles n (s .procs) (k .seated) (k .highest) c)
   spends (suc t) z e =
       let m : Procs = left (s .procs .running) (suc t) (s .procs) in
-      shift n (s .procs) 1 Nowhere Nobody m m (slice-some s k) (k .seated) (only (spend t z (omega arith))) (same-framed (s .procs) (m .ticks)) (sym (settle-still m (k .seated .in-class) (k .highest)))
+      shift n (s .procs) 1 Nowhere Nobody Nobody m m (slice-some s k) (k .seated) (only (spend t z (omega arith))) (same-framed (s .procs) (m .ticks)) (sym (settle-still m (k .seated .in-class) (k .highest)))
 
   pub ticks : Calm 1 (ticked n (s .procs))
   ticks = ⊎-elim
       (λ (z : s .procs .running ≡ 0). rw (eq-eqb (s .procs .running) 0 z)
-      (shift n (s .procs) 1 Nowhere Nobody (s .procs) (s .procs) (slice-some s k) (k .seated) (only (Moves.idle z)) (same-framed (s .procs) (s .procs .ticks)) (sym still)))
+      (shift n (s .procs) 1 Nowhere Nobody Nobody (s .procs) (s .procs) (slice-some s k) (k .seated) (only (Moves.idle z)) (same-framed (s .procs) (s .procs .ticks)) (sym still)))
       (λ (z : s .procs .running ≢ 0). rw (ne-eqb (s .procs .running) 0 z) (spends (s .procs .ticks (s .procs .running) - 1) z refl))
       (same? (s .procs .running) 0)

@@ -2,6 +2,7 @@ pub mod Places
 pub mod Seats
 pub mod Settle
 pub mod Frames
+pub mod Names
 pub mod Calls
 pub mod Mail
 pub mod Accepted
@@ -12,6 +13,7 @@ pub mod Messages
 pub mod Rear
 pub mod Ahead
 pub mod Fair
+pub mod Lives
 pub mod Why
 pub mod Theorems
 pub mod Examples

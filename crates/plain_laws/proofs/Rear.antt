@@ -40,6 +40,10 @@ passed (r ∷ rs) s o z e = ⊎-elim
     (λ (h : r .holds ≡ false). (h, passed rs s o (z .1) (sym (rw h refl) ∙ e)))
     (either (r .holds))
 
+pub accepted-passed : (s : State) (c : Call) → isRefusal ((step s c) .answer) ≡ false → Passed (refusals s c)
+unfolding step
+accepted-passed s c e = passed (refusals s c) s (perform s c) (each-code (λ k. not (eqb k 0 || eqb k 32) ≡ true) s c search) e
+
 -- ---- each call
 
 alone : (x y : ℕ) → 1 ≤ occurs x (y ∷ []) → y ≡ x
@@ -127,5 +131,5 @@ module _ (s : State) (k : Sound s) where
   pub rejoins : (c : Call) (x : ℕ) → isRefusal ((step s c) .answer) ≡ false → 1 ≤ occurs x (joiners r c) → Joins x ((step s c) .next .procs)
   unfolding step
   rejoins c x e h =
-      let p = passed (refusals s c) s (perform s c) (each-code (λ k. not (eqb k 0 || eqb k 32) ≡ true) s c search) e in
+      let p = accepted-passed s c e in
       rw (accepted (refusals s c) s (perform s c) p) (performs c x p h)

@@ -1,28 +1,32 @@
 -- Every call is a chain of moves, then settling who runs, and keeps a sound state sound.
 -- Assumes nothing.
-use Prim.Native.Nat.{ℕ, zero, suc, _+_, _≤_, _<_}
+use Prim.Native.Nat.{ℕ, zero, suc, _+_, _%_, _≤_, _<_}
 use mathlib.Core.Path.{_≡_, refl, sym, ap, _∙_, subst}
-use mathlib.Core.Bool.{true, true≢false}
+use mathlib.Core.Bool.{true, false, true≢false}
 use mathlib.Core.Logic.{_≢_, ⊎-elim}
 use mathlib.Core.List.{List, [], _∷_, _++_, nil≢cons}
 use mathlib.Core.Option.{Option, none, some}
 use native.Mathlib.Omega.{arith}
+use lib.Dec.{leb, eqb}
 use lib.ListN.{length}
 use borrow.Author.Tests.{ltb-false, leb-false, eqb-false, not-false}
 use Rattle.lists.specs.Lists.{put, occurs}
 use Rattle.lists.proofs.Laws.{same?, put-same, put-other, put-cases, one-other, total-zero}
 use Rattle.plain.specs.Sizes.{processes, classes, mailboxes, semaphores, queues, capacity, longest, highestCount, atMailbox, atSemaphore}
-use Rattle.plain.specs.State.{Message, Procs, Settings, State, start, usual, move, give, fill, score, line, places, spots, held, freeBuffer}
+use Rattle.plain.specs.State.{Message, Procs, Settings, State, start, usual, move, give, fill, score, born, line, rank, places, spots, held, freeProcess, freeBuffer}
+use Rattle.plain.specs.Names.{rounds, raised, bare}
 use Rattle.plain.specs.Start.{longestSlice}
 use Rattle.plain.specs.Runs.{makeReady, goTo, halt}
-use Rattle.plain.specs.Calls.{Call, create, stop, end, yield, class, tick, send, receive, read, release, signal, wait, perform, refusals, step, after, stopped, deliver, fetch, wake, claim, isEmpty}
+use Rattle.plain.specs.Calls.{Call, create, stop, end, yield, class, tick, send, receive, read, release, signal, wait, perform, refusals, step, after, created, stopped, deliver, fetch, wake, claim, isEmpty}
 use Rattle.plain.specs.Sound.{Set, Seated, Mail, Hands, Waits, Counts, Sound, In}
 use Rattle.plain_laws.specs.History.{Passed, kind, isTick, as-one}
+use Rattle.plain_laws.specs.Names.{begins}
+use Rattle.plain_laws.proofs.Names.{birth-sound, unborn, reborn}
 use Rattle.plain_laws.proofs.Places.{runs-once}
 use Rattle.plain_laws.proofs.Seats.{member, head-in, runner-range, runner-away, chain-seated}
 use Rattle.plain_laws.proofs.Settle.{settle-seated, settle-highest}
 use Rattle.plain_laws.proofs.Frames.{Framed, Nowhere, Nobody, slice-some, arrived, Moved, Shifted}
-use Rattle.plain_laws.proofs.Calls.{judged, accepted, somebody, wake-settles, stayed, made, roused, yields, grades, halted, paused, ticks}
+use Rattle.plain_laws.proofs.Calls.{judged, accepted, somebody, next-process, create-settles, wake-settles, stayed, made, roused, yields, grades, halted, paused, ticks}
 use Rattle.plain_laws.proofs.Refusals.{own-codes}
 use Rattle.plain_laws.proofs.Mail.{Fits, fits-free, mail-queue, mail-hand, mail-fetch, mail-drop}
 
@@ -35,7 +39,7 @@ nobody-in r q x e o = omega (arith, ap (occurs x) e)
 
 -- ---- the parts that a move or a message touches
 
-module _ {r r′ : Procs} {Enters : ℕ → ℕ → Type 0} {Ends : ℕ → Type 0} (f : Framed r Enters Ends r′) where
+module _ {r r′ : Procs} {Enters : ℕ → ℕ → Type 0} {Ends Begins : ℕ → Type 0} (f : Framed r Enters Ends Begins r′) where
   -- who newly waits at a mailbox or is newly unused has an empty hand
   hands-framed : (hand : ℕ → Option Message) → Hands r hand → ((m x : ℕ) → m < mailboxes → Enters (atMailbox m) x → hand x ≡ none) → ((x : ℕ) → Ends x → hand x ≡ none) → Hands r′ hand
   hands-framed hand k enters ends = record {
@@ -90,10 +94,10 @@ counts-scored count k i n h top = record {
 -- ---- each move and each message
 
 -- only processes move: who newly waits has an empty hand where messages come, and nothing lies there; who is newly unused has one
-shifted-sound : (s : State) → Sound s → (d : ℕ) (Enters : ℕ → ℕ → Type 0) (Ends : ℕ → Type 0) (r′ : Procs) → Shifted (s .settings .slice) (s .procs) d Enters Ends r′
+shifted-sound : (s : State) → Sound s → (d : ℕ) (Enters : ℕ → ℕ → Type 0) (Ends Begins : ℕ → Type 0) (r′ : Procs) → Shifted (s .settings .slice) (s .procs) d Enters Ends Begins r′
     → ((m x : ℕ) → m < mailboxes → Enters (atMailbox m) x → (s .hand x ≡ none) × (s .box m ≡ [])) → ((i x : ℕ) → i < semaphores → Enters (atSemaphore i) x → s .count i ≡ 0)
     → ((x : ℕ) → Ends x → s .hand x ≡ none) → Sound (move r′ s)
-shifted-sound s k d Enters Ends r′ v at-boxes at-counts ends =
+shifted-sound s k d Enters Ends Begins r′ v at-boxes at-counts ends =
     let n : ℕ = s .settings .slice in
     let to = v .moved .to in
     let seated : Seated n to = chain-seated n (s .procs) (k .seated) d to (slice-some s k) (v .moved .chain) in
@@ -105,28 +109,67 @@ shifted-sound s k d Enters Ends r′ v at-boxes at-counts ends =
       hands = hands-framed (v .framed) (s .hand) (k .hands) (λ m x b y. at-boxes m x b y .0) ends;
       waits = waits-framed (v .framed) (s .box) (s .count) (k .waits) (λ m x b y. at-boxes m x b y .1) at-counts;
       counts = k .counts;
+      births = k .births;
     }
+
+-- a number's birth is counted
+born-sound : (s : State) → Sound s → (p : ℕ) → 1 ≤ p → p < processes → Sound (born p (raised (s .births p)) s)
+born-sound s k p h h′ = record {
+  settings = k .settings;
+  seated = k .seated;
+  highest = k .highest;
+  mail = k .mail;
+  hands = k .hands;
+  waits = k .waits;
+  counts = k .counts;
+  births = birth-sound (s .births) (k .births) p h h′;
+}
 
 -- only messages move
 mail-sound : (s : State) → Sound s → (box : ℕ → List Message) (hand : ℕ → Option Message) → Mail box hand → Hands (s .procs) hand → Waits (s .procs) box (s .count)
-    → Sound (record { procs = s .procs; hand = hand; box = box; count = s .count; settings = s .settings })
-mail-sound s k box hand mail hands waits = record { settings = k .settings; seated = k .seated; highest = k .highest; mail = mail; hands = hands; waits = waits; counts = k .counts }
+    → Sound (record { procs = s .procs; hand = hand; box = box; count = s .count; births = s .births; settings = s .settings })
+mail-sound s k box hand mail hands waits = record { settings = k .settings; seated = k .seated; highest = k .highest; mail = mail; hands = hands; waits = waits; counts = k .counts; births = k .births }
 
 module _ (s : State) (k : Sound s) where
   abbrev n : ℕ
   n = s .settings .slice
 
-  -- t is sound, and its processes stand as after a chain of moves with d ticks, settled
+  -- a number's birth count is raised where the number begins, and else it stays
+  abbrev Tallies : State → Type 0
+  Tallies t = (x : ℕ) → 1 ≤ x → t .births x ≡ (s .births x + as-one (begins (s .procs) (t .procs) x)) % rounds
+
+  -- t is sound, its processes stand as after a chain of moves with d ticks, settled, and births are counted
   abbrev Goes : ℕ → State → Type 0
-  Goes d t = Sound t × Moved n (s .procs) d (t .procs)
+  Goes d t = Sound t × Moved n (s .procs) d (t .procs) × Tallies t
+
+  -- nobody is newly used
+  untold : {d : ℕ} {Enters : ℕ → ℕ → Type 0} {Ends : ℕ → Type 0} (r′ : Procs) → Shifted n (s .procs) d Enters Ends Nobody r′ → Tallies (move r′ s)
+  untold r′ v x h = unborn (s .procs) r′ (s .births x) x (k .births .most x) (λ z. ⊎-elim (λ e. e) (λ y. absurd y) (v .framed .rests x h z))
 
   -- nobody newly waits, and nobody is newly unused
-  calm : (d : ℕ) (r′ : Procs) → Shifted n (s .procs) d Nowhere Nobody r′ → Goes d (move r′ s)
-  calm d r′ v = (shifted-sound s k d Nowhere Nobody r′ v (λ m x b y. absurd y) (λ i x b y. absurd y) (λ x y. absurd y), v .moved)
+  calm : (d : ℕ) (r′ : Procs) → Shifted n (s .procs) d Nowhere Nobody Nobody r′ → Goes d (move r′ s)
+  calm d r′ v = (shifted-sound s k d Nowhere Nobody Nobody r′ v (λ m x b y. absurd y) (λ i x b y. absurd y) (λ x y. absurd y), v .moved, untold r′ v)
+
+  -- a number becomes a process
+  creates : (c : ℕ) → leb classes c ≡ false → eqb (freeProcess (s .procs)) processes ≡ false → Goes 0 (created (freeProcess (s .procs)) c s)
+  creates c e e′ =
+      let p : ℕ = freeProcess (s .procs) in
+      let y = next-process (s .procs) e′ in
+      let hc = leb-false classes c e in
+      let r′ : Procs = makeReady n p (rank p c (s .procs)) in
+      let v = made s k c e e′ in
+      let there = arrived n p c (s .procs) r′ (slice-some s k) (k .seated) hc (y .0) (y .1) (create-settles n (s .procs) (k .seated) (k .highest) p c (y .2) hc) in
+      let b : ℕ = raised (s .births p) in (
+        shifted-sound (born p b s) (born-sound s k p (y .0) (y .1)) 0 Nowhere Nobody _ r′ v (λ m x h z. absurd z) (λ i x h z. absurd z) (λ x z. absurd z),
+        v .moved,
+        λ x h. put-cases (λ (a : ℕ). a ≡ (s .births x + as-one (begins (s .procs) r′ x)) % rounds) (s .births) p b x
+            (λ d. rw d (reborn (s .procs) r′ (s .births p) p (y .2) (omega (arith, there .0))))
+            (λ d. unborn (s .procs) r′ (s .births x) x (k .births .most x) (λ z. ⊎-elim (λ a. a) (λ a. absurd (d a)) (v .framed .rests x h z))),
+      )
 
   -- no process moves
-  still : (t : State) → t .procs ≡ s .procs → Sound t → Goes 0 t
-  still t e k′ = (k′, rw e (stayed s k .moved))
+  still : (t : State) → t .procs ≡ s .procs → t .births ≡ s .births → Sound t → Goes 0 t
+  still t e e′ k′ = (k′, rw e (stayed s k .moved), λ x h. rw (e, e′) (unborn (s .procs) (s .procs) (s .births x) x (k .births .most x) (λ z. z)))
 
   -- the hand of p is emptied
   released : (p : ℕ) → p < processes → Sound (give p none s)
@@ -135,9 +178,10 @@ module _ (s : State) (k : Sound s) where
   -- p is stopped, and its hand emptied
   stops : (p : ℕ) → 1 ≤ p → p < processes → Goes 0 (stopped p s)
   stops p h h′ = (
-    shifted-sound (give p none s) (released p h′) 0 Nowhere (λ x. x ≡ p) (halt p (s .procs)) (halted s k p h)
+    shifted-sound (give p none s) (released p h′) 0 Nowhere (λ x. x ≡ p) Nobody (halt p (s .procs)) (halted s k p h)
         (λ m x b y. absurd y) (λ i x b y. absurd y) (λ x e. rw e (put-same (s .hand) p none)),
     halted s k p h .moved,
+    untold (halt p (s .procs)) (halted s k p h),
   )
 
   -- the caller waits at queue q: with an empty hand where messages come, and nothing lies there
@@ -146,13 +190,13 @@ module _ (s : State) (k : Sound s) where
       → Goes 0 (move (goTo n q (s .procs)) s)
   pauses q z h₅ hq no-mail no-count =
       let v = paused s k q z h₅ hq in
-      (shifted-sound s k 0 _ Nobody (goTo n q (s .procs)) v (λ m x b y. rw (y .1) (no-mail m b (y .0))) (λ i x b y. no-count i b (y .0)) (λ x y. absurd y), v .moved)
+      (shifted-sound s k 0 _ Nobody Nobody (goTo n q (s .procs)) v (λ m x b y. rw (y .1) (no-mail m b (y .0))) (λ i x b y. no-count i b (y .0)) (λ x y. absurd y), v .moved, untold (goTo n q (s .procs)) v)
 
   -- a message is queued last where nobody waits, or handed to the first waiter
   delivers : (m : ℕ) (x : Message) (l : List ℕ) → m < mailboxes → length (s .box m) < capacity → Fits (s .box) (s .hand) x → s .procs .queue (atMailbox m) ≡ l → Goes 0 (deliver m x l s)
   delivers m x [] h room f e =
       let l : List Message = s .box m ++ (x ∷ []) in
-      still _ refl (mail-sound s k (put (s .box) m l) (s .hand) (mail-queue (s .box) (s .hand) (k .mail) m x h room f) (k .hands)
+      still _ refl refl (mail-sound s k (put (s .box) m l) (s .hand) (mail-queue (s .box) (s .hand) (k .mail) m x h room f) (k .hands)
       (waits-filled (s .procs) (s .box) (s .count) (k .waits) m l (λ p o. absurd (nobody-in (s .procs) (atMailbox m) p e o))))
   delivers m x (w ∷ l) h room f e =
       let here : In (s .procs) (atMailbox m) w = head-in n (s .procs) (k .seated) (atMailbox m) w l e in
@@ -164,6 +208,7 @@ module _ (s : State) (k : Sound s) where
             (mail-hand (s .box) (s .hand) (k .mail) w x (who .1) (k .hands .waiters m w h here) f)
             (hands-given r′ (s .hand) (g .0 .hands) w x (who .0) (omega (arith, there .0)) (λ i. there .1 (atMailbox i) (omega arith))) (g .0 .waits),
         g .1,
+        g .2,
       )
 
   -- the caller's hand takes the first message of a mailbox
@@ -178,7 +223,7 @@ module _ (s : State) (k : Sound s) where
 
   -- a semaphore counts c, where nobody waits or c is 0
   scores : (i c : ℕ) → i < semaphores → c ≤ highestCount → ((x : ℕ) → In (s .procs) (atSemaphore i) x → c ≡ 0) → Goes 0 (score i c s)
-  scores i c h top z = still _ refl (record {
+  scores i c h top z = still _ refl refl (record {
     settings = k .settings;
     seated = k .seated;
     highest = k .highest;
@@ -186,13 +231,14 @@ module _ (s : State) (k : Sound s) where
     hands = k .hands;
     waits = waits-scored (s .procs) (s .box) (s .count) (k .waits) i c z;
     counts = counts-scored (s .count) (k .counts) i c h top;
+    births = k .births;
   })
 
   fetches : (m : ℕ) (l : List Message) → s .procs .running ≢ 0 → m < mailboxes → isEmpty (s .hand (s .procs .running)) ≡ true → s .box m ≡ l → Goes 0 ((fetch m l s) .next)
   fetches m [] z h e b =
       pauses (atMailbox m) z (omega arith) (omega arith)
       (λ i _ d. (empty-hand (s .hand (s .procs .running)) e, subst (λ (j : ℕ). s .box j ≡ []) (omega arith) b)) (λ i h′ d. absurd (omega arith))
-  fetches m (x ∷ l) z h e b = still _ refl (hand-sound m x l z h b (empty-hand (s .hand (s .procs .running)) e))
+  fetches m (x ∷ l) z h e b = still _ refl refl (hand-sound m x l z h b (empty-hand (s .hand (s .procs .running)) e))
 
   wakes : (i : ℕ) (l : List ℕ) → i < semaphores → s .count i ≢ highestCount → s .procs .queue (atSemaphore i) ≡ l → Goes 0 (wake i l s)
   wakes i [] h top e = scores i (s .count i + 1) h (omega (arith, k .counts .most i)) (λ x o. absurd (nobody-in (s .procs) (atSemaphore i) x e o))
@@ -204,8 +250,8 @@ module _ (s : State) (k : Sound s) where
 
   performed : (c : Call) → Passed (refusals s c) → Goes (as-one (isTick (kind c))) ((perform s c) .next)
   unfolding perform refusals
-  performed (create c) x = calm 0 _ (made s k c (x .0) (x .1 .0))
-  performed (stop p) x = let w = somebody p s (x .0) in stops p (w .0) (w .1)
+  performed (create c) x = creates c (x .0) (x .1 .0)
+  performed (stop i) x = let w = somebody i s (x .0) in stops (bare i) (w .0) (w .1)
   performed end x = let z = eqb-false (s .procs .running) 0 (x .0) in stops (s .procs .running) (omega arith) (runner-range n (s .procs) (k .seated))
   performed yield x = calm 0 _ (yields s k (eqb-false (s .procs .running) 0 (x .0)))
   performed (class c) x = calm 0 _ (grades s k c (eqb-false (s .procs .running) 0 (x .0)) (leb-false classes c (x .1 .0)))
@@ -214,8 +260,8 @@ module _ (s : State) (k : Sound s) where
       delivers m (record { buffer = freeBuffer s; bytes = b }) (s .procs .queue (atMailbox m)) (leb-false mailboxes m (x .0)) (leb-false capacity (length (s .box m)) (x .1 .1 .0))
       (fits-free s b (k .mail) (x .1 .1 .1 .0) (ltb-false longest (length b) (x .1 .0))) refl
   performed (receive m) x = fetches m (s .box m) (eqb-false (s .procs .running) 0 (x .0)) (leb-false mailboxes m (x .1 .0)) (not-false (isEmpty (s .hand (s .procs .running))) (x .1 .1 .0)) refl
-  performed (read room) x = still s refl k
-  performed release x = still _ refl (released (s .procs .running) (runner-range n (s .procs) (k .seated)))
+  performed (read room) x = still s refl refl k
+  performed release x = still _ refl refl (released (s .procs .running) (runner-range n (s .procs) (k .seated)))
   performed (signal i) x = wakes i (s .procs .queue (atSemaphore i)) (leb-false semaphores i (x .0)) (eqb-false (s .count i) highestCount (x .1 .0)) refl
   performed (wait i) x = claims i (s .count i) (eqb-false (s .procs .running) 0 (x .0)) (leb-false semaphores i (x .1 .0)) refl
 
@@ -223,7 +269,7 @@ module _ (s : State) (k : Sound s) where
   stepped : (c : Call) → Goes (as-one (isTick (kind c))) ((step s c) .next)
   unfolding step
   stepped c = ⊎-elim
-      (λ (e : as-one (isTick (kind c)) ≡ 0). judged (Goes (as-one (isTick (kind c)))) (refusals s c) s (perform s c) (subst (λ (d : ℕ). Goes d s) (sym e) (still s refl k)) (performed c))
+      (λ (e : as-one (isTick (kind c)) ≡ 0). judged (Goes (as-one (isTick (kind c)))) (refusals s c) s (perform s c) (subst (λ (d : ℕ). Goes d s) (sym e) (still s refl refl k)) (performed c))
       (λ (x : Passed (refusals s c)). rw (accepted (refusals s c) s (perform s c) x) (performed c x))
       (own-codes s c .1)
 
@@ -232,6 +278,9 @@ module _ (s : State) (k : Sound s) where
 
   pub step-moved : (c : Call) → Moved n (s .procs) (as-one (isTick (kind c))) ((step s c) .next .procs)
   step-moved c = stepped c .1
+
+  pub step-tallies : (c : Call) → Tallies ((step s c) .next)
+  step-tallies c = stepped c .2
 
 -- ---- from fresh
 
@@ -271,6 +320,7 @@ start-sound x z =
       hands = record { unused = λ p z. refl; null = refl; waiters = λ m p h o. refl };
       waits = record { boxes = λ m p h o. refl; counts = λ i p h o. refl };
       counts = record { most = λ i. omega arith; no-more = λ i h. refl };
+      births = record { null = refl; most = λ p. omega arith; no-more = λ p h. refl };
     }
 
 pub after-sound : (s : State) (cs : List Call) → Sound s → Sound (after s cs)

@@ -2,3 +2,4 @@ pub mod Moves
 pub mod History
 pub mod Theorems
 pub mod Reasons
+pub mod Names

@@ -2,14 +2,14 @@
 -- Assumes nothing.
 use Prim.Native.Nat.{ℕ, suc, _-_, _≤_, _<_}
 use mathlib.Core.Path.{_≡_, refl, _∙_}
-use mathlib.Core.Bool.{Bool, false, _||_}
+use mathlib.Core.Bool.{Bool, true, false, not, _||_}
 use mathlib.Core.Logic.{_≢_, ⊎-elim}
 use mathlib.Core.List.{List, [], _∷_}
 use native.Mathlib.Omega.{arith}
-use lib.Dec.{eqb, leb}
-use borrow.Author.Tests.{eq-eqb, ne-eqb, le-leb}
+use lib.Dec.{eqb}
+use borrow.Author.Tests.{eq-eqb, ne-eqb}
 use Rattle.lists.specs.Lists.{lowest}
-use Rattle.lists.proofs.Laws.{same?, le?, lowest-same}
+use Rattle.lists.proofs.Laws.{same?, lowest-same}
 use Rattle.bits.specs.Word.{width}
 use Rattle.bits.proofs.Words.{word-has, word-lowest}
 use Rattle.rings.proofs.Looks.{first-is}
@@ -34,12 +34,10 @@ module _ {k : Numbers} {s : Procs} (K : Keeps k s) where
   pub unused-bit : (p : ℕ) → 1 ≤ p → p < processes → unusedAt k p ≡ unused s p
   unused-bit p h h′ = word-has width (isUnused s) (K .unused) p h′ ∙ rw (ne-eqb p 0 (λ e. omega arith))
 
-  -- whether a number, any one, names no process
-  pub no-process : (p : ℕ) → (eqb p 0 || (leb processes p || unusedAt k p)) ≡ (eqb p 0 || (leb processes p || unused s p))
-  no-process p = ⊎-elim
-      (λ (e : p ≡ 0). rw (eq-eqb p 0 e))
-      (λ (d : p ≢ 0). ⊎-elim (λ (h : processes ≤ p). rw (le-leb processes p h)) (λ (h : p < processes). rw (unused-bit p (omega arith) h)) (le? processes p))
-      (same? p 0)
+  -- whether a number, which is a process's if it is named, is nobody to stop
+  pub no-process : (is-named : Bool) (p : ℕ) → (is-named ≡ true → p < processes) → (eqb p 0 || (not is-named || unusedAt k p)) ≡ (eqb p 0 || (not is-named || unused s p))
+  no-process false p low = refl
+  no-process true p low = ⊎-elim (λ (e : p ≡ 0). rw (eq-eqb p 0 e)) (λ (d : p ≢ 0). rw (unused-bit p (omega arith) (low refl))) (same? p 0)
 
   module _ (q : ℕ) {w : ℕ} (is : w ≡ firstOf k q) where
     pub first-there : w < processes → (l : List ℕ) × (s .queue q ≡ w ∷ l)

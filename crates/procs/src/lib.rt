@@ -26,7 +26,7 @@ pub struct Procs {
     pub unused: Pids,
 }
 
-// What a table, of classes or of ticks, has for p; 0 where p is no process.
+// What a table, of classes, of ticks or of birth counts, has for p; 0 where p is no process.
 pub fn entry(t: [u8; sizes::PROCESSES], p: Pid) -> u8
     ensures { λ r. ⌜ r ≡ getD t (p .0) 0 ⌝ }
 {
@@ -38,7 +38,7 @@ pub fn entry(t: [u8; sizes::PROCESSES], p: Pid) -> u8
 }
 
 // The table with v for p.
-fn with_entry(mut t: [u8; sizes::PROCESSES], p: Pid, v: u8) -> [u8; sizes::PROCESSES]
+pub fn with_entry(mut t: [u8; sizes::PROCESSES], p: Pid, v: u8) -> [u8; sizes::PROCESSES]
     ensures { λ r. ⌜ r ≡ set t (p .0) v ⌝ }
 {
     if p.0 < PROCESSES {

@@ -16,6 +16,7 @@ use Rattle.lists.proofs.Laws.{put-cases, one-same, le?}
 use Rattle.lists.specs.Lists.{if_then_else_, put, one, occurs}
 use Rattle.plain.specs.Calls as Plain
 use Rattle.plain.specs.Calls.{create, stop, end, yield, class, tick, send, receive, read, release, signal, wait}
+use Rattle.plain.specs.Names.{bare}
 use Rattle.plain.specs.Sizes.{buffers, bufferSize, storeSize, longest, atMailbox, atSemaphore}
 use Rattle.plain.specs.Sound.{Sound, AllShort, Short}
 use Rattle.plain.specs.State.{Message, Settings, State, start, lies, buffersOf, inHand, held, freeBuffer}
@@ -176,7 +177,7 @@ module _ (store : List ℕ) (s : State) (k : Sound s) where
   performed : (c : Plain.Call) → Passed (Plain.refusals s c) → Kept store s (lends c) (Plain.perform s c)
   unfolding Plain.perform Plain.refusals
   performed (create c) p = (tt, λ st. (refl, moved store s st _ refl refl))
-  performed (stop i) p = (tt, λ st. (refl, let-go store s st i _ refl refl))
+  performed (stop n) p = (tt, λ st. (refl, let-go store s st (bare n) _ refl refl))
   performed end p = (tt, λ st. (refl, let-go store s st (Plain.caller s) _ refl refl))
   performed yield p = (tt, λ st. (refl, moved store s st _ refl refl))
   performed (class c) p = (tt, λ st. (refl, moved store s st _ refl refl))

@@ -1,28 +1,35 @@
 -- The reason by a struct's numbers is the plain kernel's reason of the state that the struct holds; and from a verdict to the promise.
 -- Assumes nothing.
 use Prim.Native.Nat.{ℕ, suc, _+_, _-_, _<_}
-use mathlib.Core.Bool.{Bool, true, false}
+use mathlib.Core.Bool.{Bool, true, false, not}
+use mathlib.Core.List.{[], _∷_}
 use mathlib.Core.Logic.{_≢_, ⊎-elim}
 use mathlib.Core.Path.{_≡_, refl, sym, _∙_}
 use native.Mathlib.Omega.{arith}
 use lib.Dec.{ltb}
-use borrow.Author.Tests.{eq-eqb, ne-eqb, leb-false, lt-ltb}
+use borrow.Author.Tests.{eq-eqb, ne-eqb, not-false, lt-ltb}
 use Rattle.lists.specs.Lists.{if_then_else_, ahead}
 use Rattle.lists.proofs.Laws.{same?}
 use Rattle.rings.proofs.Laws.{placed, elsewhere}
 use Rattle.plain.specs.Calls as Calls
 use Rattle.plain.specs.Listing.{queueOf}
+use Rattle.plain.specs.Names.{bare, names}
 use Rattle.plain.specs.Sizes.{processes, classes, mailboxes, queues}
 use Rattle.plain.specs.State.{State}
 use Rattle.plain.specs.Why as Plain
+use Rattle.plain_laws.proofs.Names.{named}
 use Rattle.plain_laws.proofs.Refusals.{Proper}
 use Rattle.plain_laws.proofs.Why.{queue-is, queue-none}
 use Rattle.procs.specs.Moves.{classAt}
 use Rattle.procs.specs.Stands as Stands
-use Rattle.kernel.proofs.Judging.{runner-is, refused-call, accepted-call, judged-passed}
-use Rattle.kernel.specs.Holds.{Holds}
+use Rattle.names.proofs.Laws.{counts-are}
+use Rattle.names.specs.Counts.{countIn}
+use Rattle.rings.specs.Decides.{Decides}
+use Rattle.kernel.proofs.Judging.{runner-is, judged-by, refused-call, accepted-call, judged-passed}
+use Rattle.kernel.specs.Holds.{Holds, IsSound}
 use Rattle.kernel.specs.Judged.{Judged, refusedWith}
 use Rattle.kernel.specs.declared.Kernel.{Kernel}
+use Rattle.verdicts.specs.Chain.{found}
 use Rattle.verdicts.specs.declared.Verdict.{Verdict}
 use Rattle.rows.specs.Places.{spot, spotIn}
 use Rattle.rows.specs.declared.spots.Spot.{Spot}
@@ -77,19 +84,26 @@ module _ {k : Kernel} {s : State} (H : Holds k s) (p : ℕ) where
 
 -- ---- the promise
 
-proper : (p : ℕ) (s : State) → Proper (refusals p s)
-proper p s = (omega arith, tt)
+proper : (n : ℕ) (s : State) → Proper (refusals n s)
+proper n s = (omega arith, tt)
 
-module _ (k : Kernel) (p : ℕ) (v : Verdict) (j : Judged (refusals p) k v) where
+-- what refuses it, by the birth counts of a struct
+pub judged-why : (n : ℕ) (sound : Bool) {is-name : Bool} {k : Kernel} {v : Verdict} → Decides sound (IsSound k) → is-name ≡ names (countIn (k .births)) n → v ≡ found (Calls.on 14 (not sound) ∷ Calls.on 1 (not is-name) ∷ []) → Judged (refusals n) k v
+judged-why n sound S is e = judged-by sound S e (λ s H. rw (is, counts-are (H .births)) refl)
+
+module _ (k : Kernel) (n : ℕ) (v : Verdict) (j : Judged (refusals n) k v) where
   -- what is not refused is about a process
-  pub low : v .code ≡ 0 → p < processes
-  low z = let w = judged-passed (proper p) z j in leb-false processes p (w .2 (w .0 .0) (w .0 .1) (w .0 .2) .0)
+  pub low : v .code ≡ 0 → bare n < processes
+  low z =
+      let w = judged-passed (proper n) z j in
+      let s : State = w .0 .0 in
+      named (s .births) n (not-false (names (s .births) n) (w .2 s (w .0 .1) (w .0 .2) .0)) .0
 
-  pub refused : (w : Explained) → v .code ≢ 0 → w .answer ≡ refusedWith k v .answer → meant (w .reason) ≡ Plain.unused → Explains Holds k p w
+  pub refused : (w : Explained) → v .code ≢ 0 → w .answer ≡ refusedWith k v .answer → meant (w .reason) ≡ Plain.unused → Explains Holds k n w
   unfolding Plain.why
-  refused w d e u = rw e (refused-call (refusals p) (Calls.done 0) (λ s. meant (w .reason) ≡ Plain.told s p) (meant (w .reason) ≡ Plain.unused) k v (proper p) d j (λ s n. u ∙ sym (rw n)) u)
+  refused w d e u = rw e (refused-call (refusals n) (Calls.done 0) (λ s. meant (w .reason) ≡ Plain.told s n) (meant (w .reason) ≡ Plain.unused) k v (proper n) d j (λ s z. u ∙ sym (rw z)) u)
 
-  pub accepted : (w : Explained) → v .code ≡ 0 → w .answer ≡ refusedWith k v .answer → meant (w .reason) ≡ reasonAt (Stands.numbers (k .procs)) p → Explains Holds k p w
+  pub accepted : (w : Explained) → v .code ≡ 0 → w .answer ≡ refusedWith k v .answer → meant (w .reason) ≡ reasonAt (Stands.numbers (k .procs)) (bare n) → Explains Holds k n w
   unfolding Plain.why
-  accepted w z e m = rw e (accepted-call (refusals p) (Calls.done 0) (λ s. meant (w .reason) ≡ Plain.told s p) (meant (w .reason) ≡ Plain.unused) k v (proper p) z j (refusedWith k v)
-      (λ s H S q is. rw (judged-passed (proper p) z j .1) (record { next = H; answer = rw (runner-is k s H) refl }, m ∙ reason-is H p ∙ sym (rw is))))
+  accepted w z e m = rw e (accepted-call (refusals n) (Calls.done 0) (λ s. meant (w .reason) ≡ Plain.told s n) (meant (w .reason) ≡ Plain.unused) k v (proper n) z j (refusedWith k v)
+      (λ s H S q is. rw (judged-passed (proper n) z j .1) (record { next = H; answer = rw (runner-is k s H) refl }, m ∙ reason-is H (bare n) ∙ sym (rw is))))

@@ -1,12 +1,13 @@
 -- The theorems: from the promise, and from what the plain kernel's reasons say.
 -- Assumes nothing.
-use Prim.Native.Nat.{ℕ, _<_}
+use Prim.Native.Nat.{ℕ}
+use mathlib.Core.Bool.{true}
 use mathlib.Core.Path.{_≡_, refl, sym, ap, _∙_}
-use borrow.Author.Tests.{lt-leb}
-use Rattle.plain.specs.Sizes.{processes}
+use Rattle.plain.specs.Names.{bare, names}
 use Rattle.plain.specs.State.{State}
 use Rattle.plain.specs.Why as Plain
 use Rattle.plain.specs.Why.{reason, told}
+use Rattle.plain_laws.proofs.Names.{named as named-number}
 use Rattle.plain_laws.proofs.Theorems as Why
 use Rattle.promise.proofs.Runs.{meets, agree}
 use Rattle.promise.proofs.Theorems.{questions}
@@ -37,21 +38,22 @@ pub one-meaning : (r r′ : Reason) → meant r ≡ meant r′ → r ≡ r′
 one-meaning r r′ e = sym (named-back r) ∙ ap named e ∙ named-back r′
 
 pub one-explanation : OneExplanation
-one-explanation K Holds k p w w′ a b =
+one-explanation K Holds k n w w′ a b =
     let e = agree Holds (meant (w .reason) ≡ meant (w′ .reason)) a b (λ s x y. x ∙ sym y) (λ x y. x ∙ sym y) in
     let answer = one-answer .answer (w .answer) (w′ .answer) (e .0) in
     let reason = one-meaning (w .reason) (w′ .reason) (e .1) in
     λ i. record { answer = answer i; reason = reason i }
 
--- of a process the reason is told
-pub told-reason : (s : State) (p : ℕ) → p < processes → told s p ≡ reason s p
+-- by a name the reason is told
+pub told-reason : (s : State) (n : ℕ) → names (s .births) n ≡ true → told s n ≡ reason s (bare n)
 unfolding Plain.why
-told-reason s p h = rw (lt-leb processes p h)
+told-reason s n h = rw h
 
 pub true-reason : TrueReason
-true-reason K Holds k s p w H S h x =
-    let e = meets Holds x s H S .1 ∙ told-reason s p h in
-    record { holds = rw e (Why.one-reason .holds s p S h); only = λ r t. Why.one-reason .only s p r S h t ∙ sym e }
+true-reason K Holds k s n w H S h x =
+    let e = meets Holds x s H S .1 ∙ told-reason s n h in
+    let low = named-number (s .births) n h .0 in
+    record { holds = rw e (Why.one-reason .holds s (bare n) S low); only = λ r t. Why.one-reason .only s (bare n) r S low t ∙ sym e }
 
 pub explained-anywhere : ExplainedAnywhere
-explained-anywhere K Holds p w = questions Holds _ _ _ _
+explained-anywhere K Holds n w = questions Holds _ _ _ _

@@ -12,9 +12,9 @@ use Rattle.procs.specs.Stands as Stands
 use Rattle.rows.specs.Places.{spotIn}
 use Rattle.rows.specs.declared.spots.Spot.{Spot}
 
--- about process p
+-- about the process named n
 abbrev pub refusals : ℕ → State → List Refusal
-refusals p s = Plain.noSuch p ∷ []
+refusals n s = Plain.noSuch n s ∷ []
 
 -- processes of which only the runner and its class are told
 abbrev pub runner : ℕ → ℕ → Procs

@@ -26,6 +26,6 @@ given n = record { kind = n .kind; which = n .which; ahead = n .ahead }
 
 -- ---- the promise
 
--- Why process p waits is asked of a k and answered with w, a question. Where it is refused the reason is the one whose numbers are zeros.
+-- Why the process named n waits is asked of a k and answered with w, a question. Where it is refused the reason is the one whose numbers are zeros.
 abbrev pub Explains : {K : Type 0} → (K → State → Type 0) → K → ℕ → Explained → Type 0
-Explains Holds k p w = Asks Holds (λ s. Plain.why s p) (λ s. meant (w .reason) ≡ Plain.told s p) (meant (w .reason) ≡ Plain.unused) k (said (w .answer))
+Explains Holds k n w = Asks Holds (λ s. Plain.why s n) (λ s. meant (w .reason) ≡ Plain.told s n) (meant (w .reason) ≡ Plain.unused) k (said (w .answer))

@@ -118,17 +118,18 @@ fn reason_of(k: Procs, p: Pid) -> Reason
     reason_at(running, entry(class, running), at)
 }
 
-fn judge(k: Kernel, p: u32) -> Verdict
-    ensures { λ r. ⌜ Judged (refusals p) k r ⌝ }
+fn judge(k: Kernel, name: u32) -> Verdict
+    ensures { λ r. ⌜ Judged (refusals name) k r ⌝ }
 {
-    verdicts::on_why(k.facts(), p)
+    let births = k.births;
+    verdicts::on_why(k.facts(), names::is_name(births, name))
 }
 
-// Why process p waits.
-pub fn why(k: Kernel, p: u32) -> Explained
-    ensures { λ r. ⌜ Explains Holds k p r ⌝ }
+// Why the process of that name waits.
+pub fn why(k: Kernel, name: u32) -> Explained
+    ensures { λ r. ⌜ Explains Holds k name r ⌝ }
 {
-    let v = judge(k, p);
+    let v = judge(k, name);
     let answer = k.answer_to(v);
     if v.code != 0 {
         return Explained {
@@ -137,6 +138,7 @@ pub fn why(k: Kernel, p: u32) -> Explained
         };
     }
     let procs = k.procs;
+    let p = names::bare(name);
     let reason = reason_of(procs, Pid(p as u8));
     Explained { answer, reason }
 }

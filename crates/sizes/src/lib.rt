@@ -38,6 +38,9 @@ pub const LONGEST_SLICE: usize = 255;
 
 pub const USUAL_SLICE: usize = 5;
 
+// A name is the number plus so many times its birth count, and returns after so many births.
+pub const BIRTHS: usize = 256;
+
 // The queues of processes: the ready ones of class c are queue c; then come the waiters at the mailboxes, then those at the semaphores.
 pub const AT_MAILBOXES: usize = CLASSES;
 

@@ -2,11 +2,10 @@
 ghost use mathlib.Core.Bool.{not, _||_};
 ghost use mathlib.Core.List.{[], _∷_};
 ghost use mathlib.Core.Path.{_≡_};
-ghost use lib.Dec.{eqb, leb, ltb};
+ghost use lib.Dec.{eqb, ltb};
 ghost use Rattle.plain.specs.Calls.{on, noClass, noMailbox, noSemaphore};
 ghost use Rattle.plain.specs.Listing.{fewRows};
 ghost use Rattle.plain.specs.Start.{sliceOf, startRefusals};
-ghost use Rattle.plain.specs.Why.{noSuch};
 ghost use Rattle.plain.specs.Sizes.{processes, buffers, longest, highestCount, storeSize};
 ghost use Rattle.verdicts.specs.Chain.{orElse, found};
 use sizes::Pid;
@@ -100,10 +99,11 @@ pub fn on_create(f: Facts, class: u32, unused: u32) -> Verdict
         .or(unused == PROCESSES, 10)
 }
 
-pub fn on_stop(f: Facts, p: u32, unused: bool) -> Verdict
-    ensures { λ r. ⌜ r ≡ found (on 14 (not (f .sound)) ∷ on 1 (eqb p 0 || (leb processes p || unused)) ∷ []) ⌝ }
+// Process p by a name: whether it is the name of that number, and whether the number is unused.
+pub fn on_stop(f: Facts, p: u32, named: bool, unused: bool) -> Verdict
+    ensures { λ r. ⌜ r ≡ found (on 14 (not (f .sound)) ∷ on 1 (eqb p 0 || (not named || unused)) ∷ []) ⌝ }
 {
-    on_tick(f).or(either(p == 0, either(PROCESSES <= p, unused)), 1)
+    on_tick(f).or(either(p == 0, either(!named, unused)), 1)
 }
 
 pub fn on_class(f: Facts, class: u32) -> Verdict
@@ -168,9 +168,9 @@ pub fn on_listing(sound: bool, rows: usize) -> Verdict
         .or_with(rows < sizes::PROCESSES, 9, PROCESSES)
 }
 
-// Why process p waits may be asked of each process, also of 0 and of one that is unused.
-pub fn on_why(f: Facts, p: u32) -> Verdict
-    ensures { λ r. ⌜ r ≡ found (on 14 (not (f .sound)) ∷ noSuch p ∷ []) ⌝ }
+// Why a process waits may be asked by the name of each number, also of 0 and of one that is unused.
+pub fn on_why(f: Facts, named: bool) -> Verdict
+    ensures { λ r. ⌜ r ≡ found (on 14 (not (f .sound)) ∷ on 1 (not named) ∷ []) ⌝ }
 {
-    on_tick(f).or(PROCESSES <= p, 1)
+    on_tick(f).or(!named, 1)
 }

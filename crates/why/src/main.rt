@@ -1,4 +1,4 @@
-// Why a process waits, for a stagehand: its number as the one argument, a state area on standard input, one line written.
+// Why a process waits, for a stagehand: its name as the one argument, a state area on standard input, one line written.
 // A reason goes to standard output, a word on what is wrong with the question to standard error. Assumes nothing.
 mod explaining;
 

@@ -16,8 +16,8 @@ returns c = record { whole = λ h. absurd (c .if1 .taken h); other = λ h. refl 
 
 returns-2 : tie.Need-returns-2
 unfolding image
-returns-2 c = let p = puts (puts (puts (c .before .before .before .before .before .before .before .before .before .before .before .before .before .before .before .before .before .before .procs .ensures) (c .before .before .before .before .before .before .before .before .before .before .before .before .before .mail .ensures)) (rw (long (c .before .before .before .before .before .before .before .before .before .before .before .before .before .before .before .before .before .before .before .before .before .before .before)) at (c .before .before .before .before .before .before .before .halfwords .ensures))) (c .before .before .settings2 .ensures) in
-    record { whole = λ h. put-whole h p; other = λ h. absurd (h (c .before .before .before .before .before .before .before .before .before .before .before .before .before .before .before .before .before .before .before .before .before .if1 .left)) }
+returns-2 c = let p = puts (puts (puts (puts (c .before .before .before .before .before .before .before .before .before .before .before .before .before .before .before .before .before .before .before .before .before .before .before .procs .ensures) (c .before .before .before .before .before .before .before .before .before .before .before .before .before .before .before .before .before .before .mail .ensures)) (rw (long (c .before .before .before .before .before .before .before .before .before .before .before .before .before .before .before .before .before .before .before .before .before .before .before .before .before .before .before .before)) at (c .before .before .before .before .before .before .before .before .before .before .before .before .halfwords .ensures))) (c .before .before .before .before .before .before .before .births2 .ensures)) (c .before .before .settings2 .ensures) in
+    record { whole = λ h. put-whole h p; other = λ h. absurd (h (c .before .before .before .before .before .before .before .before .before .before .before .before .before .before .before .before .before .before .before .before .before .before .before .before .before .before .if1 .left)) }
 
 pub write-spec : {M : Type 1} → statement M
-write-spec = tie.close (tie.spec returns (λ c κs. search needs) (λ c κs. search needs) (λ c. search needs) (λ c κs. search needs) (λ c κs. search needs) (λ c. search needs) returns-2)
+write-spec = tie.close (tie.spec returns (λ c κs. search needs) (λ c κs. search needs) (λ c. search needs) (λ c κs. search needs) (λ c κs. search needs) (λ c κs. search needs) (λ c. search needs) returns-2)

@@ -10,12 +10,12 @@ use Rattle.why.proofs.explaining.about.Tie as tie
 returns : tie.Need-returns
 returns c =
     let s = c .before .before .before .before .before .before .before .args in
-    gives-as (omega arith) (of-none (s .state .now) (Explained (s .state .now) (s .process)) (c .before .before .before .before .if1 .taken)) (c .before .before .no-state .ensures)
+    gives-as (omega arith) (of-none (s .state .now) (Explained (s .state .now) (s .name)) (c .before .before .before .before .if1 .taken)) (c .before .before .no-state .ensures)
 
 returns-2 : tie.Need-returns-2
 returns-2 c =
     let s = c .before .before .before .before .before .before .before .args in
-    gives-as (omega arith) (of-some (s .state .now) (Explained (s .state .now) (s .process)) (c .before .before .before .before .if1 .left)) (c .before .before .explain .ensures)
+    gives-as (omega arith) (of-some (s .state .now) (Explained (s .state .now) (s .name)) (c .before .before .before .before .if1 .left)) (c .before .before .explain .ensures)
 
 pub about-spec : {M : Type 1} → statement M
 about-spec =

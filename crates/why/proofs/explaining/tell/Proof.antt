@@ -12,7 +12,7 @@ returns : tie.Need-returns
 returns c = gives-as (omega arith) (λ good text t. rw (number-none (number (c .before .before .before .before .before .before .before .before .before .before .before .args .word .now)) (c .before .before .before .before .before .before .before .read-number .ensures) (c .before .before .before .before .before .enum-told .given .1)) t) (c .before .before .refuse .ensures)
 
 returns-2 : tie.Need-returns-2
-returns-2 c = gives-as (omega arith) (λ good text t. rw (number-some (number (c .before .before .before .before .before .before .before .before .before .before .before .args .word .now)) (c .before .before .before .before .before .before .before .read-number .ensures) (c .before .before .before .before .before .process .given .1)) t) (c .before .before .about .ensures)
+returns-2 c = gives-as (omega arith) (λ good text t. rw (number-some (number (c .before .before .before .before .before .before .before .before .before .before .before .args .word .now)) (c .before .before .before .before .before .before .before .read-number .ensures) (c .before .before .before .before .before .name .given .1)) t) (c .before .before .about .ensures)
 
 pub tell-spec : {M : Type 1} → statement M
 tell-spec =
