@@ -11,7 +11,7 @@ static int is_sound(const struct kernel *k);
 /* Copies a field between the image and the struct; x86-64 has the lowest byte first, as the image. */
 #define EACH_FIELD(copy) \
     copy(running) copy(class_of) copy(ticks) copy(next) copy(before) copy(ready) copy(unused) copy(box_next) \
-    copy(box_before) copy(hand) copy(full) copy(length) copy(free) copy(count) copy(slice)
+    copy(box_before) copy(hand) copy(full) copy(length) copy(free) copy(count) copy(births) copy(slice)
 #define FROM_IMAGE(field) memcpy(&k->field, state, sizeof k->field); state += sizeof k->field;
 #define TO_IMAGE(field) memcpy(state, &k->field, sizeof k->field); state += sizeof k->field;
 
@@ -63,8 +63,8 @@ csengadrul_answer csengadrul_create(uint8_t *state, size_t length, uint32_t clas
     CALL(kernel_create(&k, class_number))
 }
 
-csengadrul_answer csengadrul_stop(uint8_t *state, size_t length, uint32_t process) {
-    CALL(kernel_stop(&k, process))
+csengadrul_answer csengadrul_stop(uint8_t *state, size_t length, uint32_t name) {
+    CALL(kernel_stop(&k, name))
 }
 
 csengadrul_answer csengadrul_end(uint8_t *state, size_t length) {
@@ -117,10 +117,10 @@ csengadrul_answer csengadrul_listing(const uint8_t *state, size_t length, csenga
     return kernel_listing(&k, rows, row_count);
 }
 
-csengadrul_reason csengadrul_why(const uint8_t *state, size_t length, uint32_t process) {
+csengadrul_reason csengadrul_why(const uint8_t *state, size_t length, uint32_t name) {
     struct kernel k;
     if (!open_image(&k, state, length)) return reason(not_sound(), 0, 0, 0);
-    return kernel_why(&k, process);
+    return kernel_why(&k, name);
 }
 
 #endif

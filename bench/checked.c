@@ -45,7 +45,7 @@ static int block_sound(const struct kernel *k, unsigned p, uint8_t place) {
 static int processes_sound(const struct kernel *k, uint8_t place[32]) {
     unsigned p, c;
     uint32_t ready = 0;
-    if (k->slice == 0 || k->running >= CSENGADRUL_PROCESSES || k->unused & 1) return 0;
+    if (k->slice == 0 || k->births[0] || k->running >= CSENGADRUL_PROCESSES || k->unused & 1) return 0;
     if (!are_rings(k->next, k->before, PROCESS_NODES) || !find_places(k->next, PROCESS_NODES - 32, place)) return 0;
     for (p = 0; p < CSENGADRUL_PROCESSES; p++)
         if (!block_sound(k, p, place[p])) return 0;

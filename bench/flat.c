@@ -164,5 +164,5 @@ static inline int waits_fit(const struct kernel *k, const uint8_t at[MEMBERS]) {
 
 static int is_sound(const struct kernel *k) {
     uint8_t at[MEMBERS];
-    return k->slice != 0 && processes_sound(k, at) && mail_sound(k) && waits_fit(k, at);
+    return k->slice != 0 && k->births[0] == 0 && processes_sound(k, at) && mail_sound(k) && waits_fit(k, at);
 }

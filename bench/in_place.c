@@ -19,9 +19,9 @@ csengadrul_answer csengadrul_create(uint8_t *state, size_t length, uint32_t clas
     return kernel_create(K, class_number);
 }
 
-csengadrul_answer csengadrul_stop(uint8_t *state, size_t length, uint32_t process) {
+csengadrul_answer csengadrul_stop(uint8_t *state, size_t length, uint32_t name) {
     (void)length;
-    return kernel_stop(K, process);
+    return kernel_stop(K, name);
 }
 
 csengadrul_answer csengadrul_end(uint8_t *state, size_t length) {
@@ -81,7 +81,7 @@ csengadrul_answer csengadrul_listing(const uint8_t *state, size_t length, csenga
     return kernel_listing((const struct kernel *)(const void *)state, rows, row_count);
 }
 
-csengadrul_reason csengadrul_why(const uint8_t *state, size_t length, uint32_t process) {
+csengadrul_reason csengadrul_why(const uint8_t *state, size_t length, uint32_t name) {
     (void)length;
-    return kernel_why((const struct kernel *)(const void *)state, process);
+    return kernel_why((const struct kernel *)(const void *)state, name);
 }

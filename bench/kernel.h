@@ -1,5 +1,5 @@
 /* A kernel in plain C, for comparison: the state behind a pointer, changed in place, nothing checked
- * about it. Each call gives document 01's answer on every sound state. */
+ * about it. Each call gives the answer of documents 01 and 02 on every sound state. */
 #ifndef BENCH_KERNEL_H
 #define BENCH_KERNEL_H
 
@@ -30,6 +30,7 @@ struct kernel {
     uint16_t length[CSENGADRUL_BUFFERS];
     uint32_t free;
     uint16_t count[CSENGADRUL_SEMAPHORES];
+    uint8_t births[CSENGADRUL_PROCESSES];
     uint8_t slice;
 };
 
@@ -150,14 +151,21 @@ static csengadrul_answer kernel_create(struct kernel *k, uint32_t class_number) 
     p = (uint8_t)__builtin_ctz(k->unused);
     k->unused &= k->unused - 1;
     k->class_of[p] = (uint8_t)class_number;
+    k->births[p]++;
     make_ready(k, p);
-    return answer(k, CSENGADRUL_DONE, p);
+    return answer(k, CSENGADRUL_DONE, p + CSENGADRUL_BIRTHS * (uint32_t)k->births[p]);
 }
 
-static csengadrul_answer kernel_stop(struct kernel *k, uint32_t process) {
-    if (process == 0 || process >= CSENGADRUL_PROCESSES || k->unused >> process & 1)
-        return answer(k, CSENGADRUL_NO_PROCESS, 0);
-    take_out(k, (uint8_t)process);
+/* Whether a number, in use or not, has this name now. */
+static int is_name(const struct kernel *k, uint32_t name) {
+    uint32_t number = CSENGADRUL_NUMBER(name);
+    return number < CSENGADRUL_PROCESSES && name / CSENGADRUL_BIRTHS == k->births[number];
+}
+
+static csengadrul_answer kernel_stop(struct kernel *k, uint32_t name) {
+    uint32_t p = CSENGADRUL_NUMBER(name);
+    if (!is_name(k, name) || p == 0 || k->unused >> p & 1) return answer(k, CSENGADRUL_NO_PROCESS, 0);
+    take_out(k, (uint8_t)p);
     return answer(k, CSENGADRUL_DONE, 0);
 }
 
@@ -337,18 +345,18 @@ static csengadrul_reason reason(csengadrul_answer a, uint32_t kind, uint32_t whi
     return r;
 }
 
-static csengadrul_reason kernel_why(const struct kernel *k, uint32_t process) {
+static csengadrul_reason kernel_why(const struct kernel *k, uint32_t name) {
     csengadrul_answer done = answer(k, CSENGADRUL_DONE, 0);
-    uint32_t ahead = 0;
+    uint32_t p = CSENGADRUL_NUMBER(name), ahead = 0;
     uint8_t node;
-    if (process >= CSENGADRUL_PROCESSES) return reason(answer(k, CSENGADRUL_NO_PROCESS, 0), 0, 0, 0);
-    if (process == k->running) return reason(done, CSENGADRUL_WHY_RUNNING, 0, 0);
-    if (process == 0) return reason(done, CSENGADRUL_WHY_BEHIND, k->running, 0);
-    if (k->unused >> process & 1) return reason(done, CSENGADRUL_WHY_UNUSED, 0, 0);
-    for (node = k->before[process]; node < CLASS_HEAD; node = k->before[node]) ahead++;
+    if (!is_name(k, name)) return reason(answer(k, CSENGADRUL_NO_PROCESS, 0), 0, 0, 0);
+    if (p == k->running) return reason(done, CSENGADRUL_WHY_RUNNING, 0, 0);
+    if (p == 0) return reason(done, CSENGADRUL_WHY_BEHIND, k->running, 0);
+    if (k->unused >> p & 1) return reason(done, CSENGADRUL_WHY_UNUSED, 0, 0);
+    for (node = k->before[p]; node < CLASS_HEAD; node = k->before[node]) ahead++;
     if (node >= SEMAPHORE_HEAD) return reason(done, CSENGADRUL_WHY_SEMAPHORE, node - SEMAPHORE_HEAD, ahead);
     if (node >= MAILBOX_HEAD) return reason(done, CSENGADRUL_WHY_MAILBOX, node - MAILBOX_HEAD, ahead);
-    if (k->class_of[process] == k->class_of[k->running]) return reason(done, CSENGADRUL_WHY_READY, 0, ahead + 1);
+    if (k->class_of[p] == k->class_of[k->running]) return reason(done, CSENGADRUL_WHY_READY, 0, ahead + 1);
     return reason(done, CSENGADRUL_WHY_BEHIND, k->running, 0);
 }
 

@@ -1,7 +1,7 @@
 /* One program for four kernels behind the board's functions: the board, in_place.c, checked.c and flat.c.
  *
  *   measure answers SEED CALLS      makes random calls and prints every answer, every message read and all rows listed,
- *                                   and after each call why some process is where it is
+ *                                   and after each call why some process is where it is; then it has names return
  *   measure damage SEED IMAGES      prints whether each of that many damaged images is refused (not in_place)
  *   measure names                   prints the names of the calls below
  *   measure make NAME TIMES MADE    restores the same prepared state so many times, and makes that call in it
@@ -15,6 +15,7 @@
 
 #define AREA 512 /* enough for an image, and for the struct of in_place.c */
 #define SLICE 3  /* ticks of a full slice, where calls are counted */
+#define FIRST(number) ((number) + CSENGADRUL_BIRTHS) /* the name of the first process of a number */
 #define S state, CSENGADRUL_STATE_SIZE
 #define STORE store, sizeof store
 
@@ -25,6 +26,7 @@ static union {
 static uint8_t *const state = lent.bytes;
 static uint8_t store[CSENGADRUL_STORE_SIZE], message[600], room[600];
 static csengadrul_row rows[CSENGADRUL_PROCESSES];
+static uint32_t names[CSENGADRUL_PROCESSES]; /* the last name of each number */
 
 static uint32_t seed;
 
@@ -38,6 +40,31 @@ static uint32_t pick(uint32_t limit) {
     return below(8) ? below(4) % limit : below(limit + 1);
 }
 
+/* Mostly the last name of a number; now and then an earlier one, the number alone, or one that another
+ * width would take for it. */
+static uint32_t pick_name(uint32_t number) {
+    switch (below(10)) {
+    case 0: return names[number] - CSENGADRUL_BIRTHS;
+    case 1: return number;
+    case 2: return names[number] + CSENGADRUL_PROCESSES;
+    case 3: return names[number] + CSENGADRUL_BIRTHS * CSENGADRUL_BIRTHS;
+    default: return names[number];
+    }
+}
+
+static csengadrul_answer create(uint32_t class_number) {
+    csengadrul_answer a = csengadrul_create(S, class_number);
+    if (a.code == CSENGADRUL_DONE) names[CSENGADRUL_NUMBER(a.number)] = a.number;
+    return a;
+}
+
+static csengadrul_answer begin(uint32_t slice) {
+    csengadrul_answer a = csengadrul_fresh_slice(S, slice);
+    uint32_t i;
+    for (i = 0; a.code == CSENGADRUL_DONE && i < CSENGADRUL_PROCESSES; i++) names[i] = i;
+    return a;
+}
+
 /* So many bytes are shown of the room: the message read, or the whole table of rows. */
 static csengadrul_answer random_call(uint32_t *shown) {
     uint32_t length, i;
@@ -46,8 +73,8 @@ static csengadrul_answer random_call(uint32_t *shown) {
     switch (below(21)) {
     case 0:
     case 1:
-    case 2: return csengadrul_create(S, pick(CSENGADRUL_CLASSES));
-    case 3: return below(4) ? csengadrul_tick(S) : csengadrul_stop(S, below(33));
+    case 2: return create(pick(CSENGADRUL_CLASSES));
+    case 3: return below(4) ? csengadrul_tick(S) : csengadrul_stop(S, pick_name(below(CSENGADRUL_PROCESSES)));
     case 4: return below(4) ? csengadrul_tick(S) : csengadrul_end(S);
     case 5: return csengadrul_yield(S);
     case 6: return csengadrul_class(S, pick(CSENGADRUL_CLASSES));
@@ -78,35 +105,54 @@ static csengadrul_answer random_call(uint32_t *shown) {
     }
 }
 
-/* Two numbers past the last are asked about too. */
-static void print_reason(unsigned long process) {
-    csengadrul_reason r = csengadrul_why(S, (uint32_t)(process % (CSENGADRUL_PROCESSES + 2)));
+static void print_answer(csengadrul_answer a) {
+    printf("%lu %lu %lu", (unsigned long)a.code, (unsigned long)a.number, (unsigned long)a.running);
+}
+
+static void print_reason(uint32_t name) {
+    csengadrul_reason r = csengadrul_why(S, name);
     printf(" why %lu %lu %lu %lu %lu %lu", (unsigned long)r.code, (unsigned long)r.number, (unsigned long)r.running,
            (unsigned long)r.kind, (unsigned long)r.which, (unsigned long)r.ahead);
 }
 
 /* Mostly with the slice above; now and then with another, or with one that is refused, and then the state stays. */
 static csengadrul_answer start(void) {
-    return csengadrul_fresh_slice(S, below(8) ? SLICE : below(CSENGADRUL_LONGEST_SLICE + 40));
+    return begin(below(8) ? SLICE : below(CSENGADRUL_LONGEST_SLICE + 40));
+}
+
+/* Process 1 is born and stopped until it has had every birth count, and some again. */
+static void births(void) {
+    uint32_t birth;
+    begin(SLICE);
+    for (birth = 0; birth < CSENGADRUL_BIRTHS + 10; birth++) {
+        print_answer(create(2));
+        print_reason(pick_name(1));
+        printf("\n");
+        print_answer(csengadrul_stop(S, pick_name(1)));
+        print_reason(pick_name(1));
+        printf("\n");
+        csengadrul_stop(S, names[1]);
+    }
 }
 
 static void answers(unsigned long calls) {
     unsigned long i;
     uint32_t shown = 0, j;
-    csengadrul_fresh(S);
+    begin(CSENGADRUL_USUAL_SLICE);
     for (i = 0; i < calls; i++) {
         csengadrul_answer a = i % 500 ? random_call(&shown) : start();
-        printf("%lu %lu %lu", (unsigned long)a.code, (unsigned long)a.number, (unsigned long)a.running);
+        print_answer(a);
         for (j = 0; i % 500 && j < shown; j++) printf(" %02x", room[j]);
-        print_reason(i);
+        print_reason(pick_name((uint32_t)i % CSENGADRUL_PROCESSES));
         printf("\n");
     }
+    births();
 }
 
 static void damage(unsigned long images) {
     unsigned long i;
     uint32_t shown, changes;
-    csengadrul_fresh_slice(S, SLICE);
+    begin(SLICE);
     for (i = 0; i < images; i++) {
         random_call(&shown);
         memcpy(prepared.bytes, state, AREA);
@@ -203,7 +249,7 @@ static void prepare_hand_512(void) {
     row("fresh", prepare, csengadrul_fresh(S), CSENGADRUL_DONE) \
     row("create", prepare, csengadrul_create(S, 2), CSENGADRUL_DONE) \
     row("create, preempting", prepare, csengadrul_create(S, 3), CSENGADRUL_DONE) \
-    row("stop", prepare, csengadrul_stop(S, 7), CSENGADRUL_DONE) \
+    row("stop", prepare, csengadrul_stop(S, FIRST(7)), CSENGADRUL_DONE) \
     row("end", prepare, csengadrul_end(S), CSENGADRUL_DONE) \
     row("yield", prepare, csengadrul_yield(S), CSENGADRUL_DONE) \
     row("class", prepare, csengadrul_class(S, 1), CSENGADRUL_DONE) \
@@ -227,8 +273,8 @@ static void prepare_hand_512(void) {
     row("listing of 12 in a queue each", prepare_12_spread, LISTING, CSENGADRUL_DONE) \
     row("listing of 31 in one queue", prepare_31_deep, LISTING, CSENGADRUL_DONE) \
     row("listing of 31 in a queue each", prepare_31_spread, LISTING, CSENGADRUL_DONE) \
-    row("why of a waiter", prepare, csengadrul_why(S, 6), CSENGADRUL_DONE) \
-    row("why of the fourth in a queue", prepare, csengadrul_why(S, 10), CSENGADRUL_DONE) \
+    row("why of a waiter", prepare, csengadrul_why(S, FIRST(6)), CSENGADRUL_DONE) \
+    row("why of the fourth in a queue", prepare, csengadrul_why(S, FIRST(10)), CSENGADRUL_DONE) \
     row("refused: listing of 31 rows", prepare, csengadrul_listing(S, rows, 31), CSENGADRUL_SHORT_ROOM) \
     row("refused: yield of nobody", prepare_nobody, csengadrul_yield(S), CSENGADRUL_NO_CALLER) \
     row("refused: a damaged state", prepare_damaged, csengadrul_yield(S), CSENGADRUL_NOT_SOUND)

@@ -25,6 +25,14 @@
  * every byte of every area as it was. Where several refusals hold at once the
  * first one in the order that stands with the call is given.
  *
+ * A process has a number and a name. The name is the number plus
+ * CSENGADRUL_BIRTHS times its birth count, which goes up by 1 whenever the number
+ * becomes a process, from 255 back to 0, and stays when the number is unused
+ * again. csengadrul_create answers the name; the calls that take a process take
+ * it, and refuse a name of an earlier process of that number. `running`, rows and
+ * reasons have numbers. After 256 births of its number a name returns:
+ * docs/BOARD.md says what that means for whoever keeps names.
+ *
  * "The caller" is the running process. A buffer "in hand" is the message that a
  * process received and has not released. "Choose" means: the first of the highest
  * class with anyone ready runs, else process 0. "Made ready" means: it joins the
@@ -45,12 +53,12 @@ extern "C" {
 /* The version, major and minor: the minor goes up where something is added, the
  * major where the image changes or an answer does, so that a state area kept from
  * another major version is not to be lent. */
-#define CSENGADRUL_VERSION_MAJOR 2
+#define CSENGADRUL_VERSION_MAJOR 3
 #define CSENGADRUL_VERSION_MINOR 0
 #define CSENGADRUL_VERSION (100 * CSENGADRUL_VERSION_MAJOR + CSENGADRUL_VERSION_MINOR)
 
 /* Sizes. */
-#define CSENGADRUL_STATE_SIZE 444    /* bytes of the state area */
+#define CSENGADRUL_STATE_SIZE 476    /* bytes of the state area */
 #define CSENGADRUL_STORE_SIZE 16384  /* bytes of the store */
 #define CSENGADRUL_MESSAGE_SIZE 512  /* bytes of the longest message */
 #define CSENGADRUL_PROCESSES 32      /* 0 to 31; 0 is the null process */
@@ -62,6 +70,10 @@ extern "C" {
 #define CSENGADRUL_COUNT_LIMIT 65535 /* the highest count of a semaphore */
 #define CSENGADRUL_USUAL_SLICE 5     /* ticks of a full slice where none is named */
 #define CSENGADRUL_LONGEST_SLICE 255 /* ticks of the longest one; the shortest has 1 */
+#define CSENGADRUL_BIRTHS 256        /* birth counts, 0 to 255; after so many births a name returns */
+
+/* The number of the process that has this name; that of process 0 is 0, and so is its name. */
+#define CSENGADRUL_NUMBER(name) ((name) % CSENGADRUL_BIRTHS)
 
 /* Where the fields of docs/IMAGE.md begin in the state area, for whoever looks at one. */
 #define CSENGADRUL_OFFSET_RUNNING 0          /* the running process */
@@ -78,12 +90,13 @@ extern "C" {
 #define CSENGADRUL_OFFSET_LENGTH 343         /* length of the message in each buffer, two bytes */
 #define CSENGADRUL_OFFSET_FREE_BITS 407      /* free buffers */
 #define CSENGADRUL_OFFSET_COUNT 411          /* count of each semaphore, two bytes */
-#define CSENGADRUL_OFFSET_SLICE 443          /* ticks of a full slice */
+#define CSENGADRUL_OFFSET_BIRTHS 443         /* birth count of each number */
+#define CSENGADRUL_OFFSET_SLICE 475          /* ticks of a full slice */
 
 /* Codes of an answer. */
 enum {
     CSENGADRUL_DONE = 0,           /* done */
-    CSENGADRUL_NO_PROCESS = 1,     /* the process is 0, over 31 or unused */
+    CSENGADRUL_NO_PROCESS = 1,     /* the name's number is 0, over 31 or unused, or has another birth count */
     CSENGADRUL_NO_CLASS = 2,       /* the class is over 4 */
     CSENGADRUL_NO_MAILBOX = 3,     /* the mailbox is over 15 */
     CSENGADRUL_NO_SEMAPHORE = 4,   /* the semaphore is over 15 */
@@ -103,7 +116,7 @@ enum {
 };
 
 /* An answer. `number` is 0 where a call does not say what it is. `running` is the
- * process that runs after the call, which is also the byte at
+ * number of the process that runs after the call, which is also the byte at
  * CSENGADRUL_OFFSET_RUNNING; with CSENGADRUL_NOT_SOUND it is 0, and so it is in
  * every answer of a fresh start. */
 typedef struct {
@@ -113,7 +126,7 @@ typedef struct {
 } csengadrul_answer;
 
 /* Writes the fresh kernel: 0 runs, every other process is unused, all queues and
- * mailboxes are empty, all counts 0, and a full slice has 5 ticks.
+ * mailboxes are empty, all counts 0, birth counts too, and a full slice has 5 ticks.
  * Answers 0 0 0. Refuses: 14 (the length only; what the area holds is not read).
  * State: the fresh image, whatever was there before. */
 csengadrul_answer csengadrul_fresh(uint8_t *state, size_t state_length);
@@ -124,15 +137,17 @@ csengadrul_answer csengadrul_fresh(uint8_t *state, size_t state_length);
  * State: the fresh image with this slice, whatever was there before. */
 csengadrul_answer csengadrul_fresh_slice(uint8_t *state, size_t state_length, uint32_t slice);
 
-/* The lowest unused number becomes a process of this class and is made ready.
- * Number: the new process. Refuses: 14, 2, 10.
+/* The lowest unused number becomes a process of this class and is made ready; its
+ * birth count goes up by 1, from 255 back to 0. Number: the name of the new process.
+ * Refuses: 14, 2, 10.
  * State: the next image. */
 csengadrul_answer csengadrul_create(uint8_t *state, size_t state_length, uint32_t process_class);
 
-/* The process leaves its place, the buffer in its hand becomes free, its number
- * unused; choose if it ran. Refuses: 14, 1.
+/* The process of this name leaves its place, the buffer in its hand becomes free,
+ * its number unused; choose if it ran. Refuses: 14, 1 for a name whose number is 0,
+ * over 31 or unused, or that has another birth count than its number.
  * State: the next image. */
-csengadrul_answer csengadrul_stop(uint8_t *state, size_t state_length, uint32_t process);
+csengadrul_answer csengadrul_stop(uint8_t *state, size_t state_length, uint32_t name);
 
 /* Does to the caller what csengadrul_stop does. Refuses: 14, 5.
  * State: the next image. */
@@ -236,15 +251,17 @@ typedef struct {
     uint32_t number;
     uint32_t running;
     uint32_t kind;  /* one of the six above */
-    uint32_t which; /* the mailbox, the semaphore, or the process that runs */
+    uint32_t which; /* the mailbox, the semaphore, or the number of the process that runs */
     uint32_t ahead; /* how many come before it */
 } csengadrul_reason;
 
-/* Tells why a process is where it is: the one reason that holds for it. Process 0
- * and unused numbers may be asked about too.
- * Answers 0 0 and the running process. Refuses: 14, 1 for a process over 31.
+/* Tells why the process of this name is where it is: the one reason that holds for
+ * it. Process 0 may be asked about too, and an unused number by the name that it had
+ * last, which is the number alone before it is born.
+ * Answers 0 0 and the running process. Refuses: 14, 1 for a name whose number is over
+ * 31, or that has another birth count than its number.
  * State: only read; nothing changes. */
-csengadrul_reason csengadrul_why(const uint8_t *state, size_t state_length, uint32_t process);
+csengadrul_reason csengadrul_why(const uint8_t *state, size_t state_length, uint32_t name);
 
 #ifdef __cplusplus
 }

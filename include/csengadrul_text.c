@@ -4,7 +4,7 @@
 const char *csengadrul_code_text(uint32_t code) {
     switch (code) {
     case CSENGADRUL_DONE: return "done";
-    case CSENGADRUL_NO_PROCESS: return "no such process";
+    case CSENGADRUL_NO_PROCESS: return "no process has this name now";
     case CSENGADRUL_NO_CLASS: return "no such class";
     case CSENGADRUL_NO_MAILBOX: return "no such mailbox";
     case CSENGADRUL_NO_SEMAPHORE: return "no such semaphore";

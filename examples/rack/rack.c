@@ -64,8 +64,8 @@ static unsigned arrived;           /* of these, whole and in order */
 static uint8_t peak;
 
 typedef void (*step)(void);
-static step steps[CSENGADRUL_PROCESSES];
-static uint32_t printer;       /* its process; 0 while it is stopped */
+static step steps[CSENGADRUL_PROCESSES]; /* by number, as the kernel says who runs */
+static uint32_t printer;       /* its name, which no later process of its number has; 0 while it is stopped */
 static unsigned stopped_since; /* the turn */
 
 static void fail(const char *what, const char *why) {
@@ -167,9 +167,9 @@ static void timer_handler(void) {
 }
 
 static uint32_t start(step task, uint32_t process_class) {
-    uint32_t process = expect("create", csengadrul_create(state, sizeof state, process_class), CSENGADRUL_DONE).number;
-    steps[process] = task;
-    return process;
+    uint32_t name = expect("create", csengadrul_create(state, sizeof state, process_class), CSENGADRUL_DONE).number;
+    steps[CSENGADRUL_NUMBER(name)] = task;
+    return name;
 }
 
 static void start_printer(void) {
@@ -193,7 +193,7 @@ static const csengadrul_row *listing(void) {
 }
 
 static void operate(unsigned turn) {
-    if (stopped_since == 0 && printed == LINES / 2 && listing()[printer].full) {
+    if (stopped_since == 0 && printed == LINES / 2 && listing()[CSENGADRUL_NUMBER(printer)].full) {
         expect("stop", csengadrul_stop(state, sizeof state, printer), CSENGADRUL_DONE);
         printer = 0;
         stopped_since = turn;

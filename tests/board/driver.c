@@ -2,7 +2,7 @@
  *
  * In, for each call, the numbers with their lowest byte first:
  *   1 byte   which call, as in lend.h
- *   4 bytes  its number: class, process, mailbox, semaphore or slice
+ *   4 bytes  its number: class, name of a process, mailbox, semaphore or slice
  *   2 bytes  length of the message, of the room, or rows of the table; of the state area, for a fresh start
  *            then the message's bytes, for a send
  * or the byte PUT and the bytes of a state area, which is then the one lent, or the byte FLUSH, which
@@ -13,7 +13,7 @@
  *   1 byte    0, or what went wrong: bits 0 to 4 for a guard byte beside an area that changed,
  *             bit 6 for a state area of another length that changed, bit 7 for a message that changed
  *   1 byte    REPLY, for whoever reads to know that both are in step
- *   444 bytes the state area
+ *   476 bytes the state area
  *   4 bytes   the first byte of the store that changed, and how many from there to the last one
  *             then these bytes
  *             then the whole room, for a read, the whole table, for a listing, or kind, which and ahead, for a why

@@ -1,7 +1,7 @@
 /* The board's calls with answers that are known beforehand: the samples of document 01, fresh starts
- * with every slice, every code, every kind of reason, and areas of every kind of length. Everything is
- * done twice, with the areas against the end of their pages and against the start. What must stay as it
- * is is compared byte for byte. */
+ * with every slice, every code, every kind of reason, names that go stale and names that return, and
+ * areas of every kind of length. Everything is done twice, with the areas against the end of their pages
+ * and against the start. What must stay as it is is compared byte for byte. */
 #include "lend.h"
 
 #include <stdio.h>
@@ -31,6 +31,7 @@ static area areas[KINDS];
 static enum lies side;
 static unsigned passed, failed;
 static unsigned long codes_seen;
+static uint8_t births[CSENGADRUL_PROCESSES]; /* how often each number was born, as document 02 counts */
 
 static void count(int good, const char *what) {
     if (good) {
@@ -109,6 +110,7 @@ static outcome expect(const char *what, enum call call, uint32_t given, uint32_t
     memcpy(room_before, room, sizeof room);
     o = lend(call, given, areas);
     if (o.answer.code < 64) codes_seen |= 1ul << o.answer.code;
+    if ((call == FRESH || call == FRESH_SLICE) && code == CSENGADRUL_DONE) memset(births, 0, sizeof births);
     if (o.answer.code != code || o.answer.number != number || o.answer.running != running)
         printf("%s: answer %lu %lu %lu, expected %lu %lu %lu\n", what, (unsigned long)o.answer.code,
                (unsigned long)o.answer.number, (unsigned long)o.answer.running, (unsigned long)code,
@@ -129,8 +131,19 @@ static void fresh(void) {
     start(SLICE);
 }
 
+/* The name that a number has, in use or not. */
+static uint32_t name(uint32_t number) {
+    return number + 256 * (uint32_t)births[number];
+}
+
+/* This number is born. */
 static void create(uint32_t class, uint32_t number, uint32_t running) {
-    expect("create", CREATE, class, CSENGADRUL_DONE, number, running);
+    births[number]++;
+    expect("create", CREATE, class, CSENGADRUL_DONE, name(number), running);
+}
+
+static void stop(uint32_t number, uint32_t running) {
+    expect("stop", STOP, name(number), CSENGADRUL_DONE, 0, running);
 }
 
 static void tick(uint32_t running) {
@@ -151,8 +164,8 @@ static void send(uint32_t mailbox, size_t length, uint32_t code, uint32_t runnin
 
 static void sample_of_the_paper(void) {
     fresh();
-    create(2, 1, 1);
-    create(2, 2, 1);
+    expect("create 2", CREATE, 2, CSENGADRUL_DONE, 257, 1);
+    expect("create 2", CREATE, 2, CSENGADRUL_DONE, 258, 1);
     tick(1);
     memcpy(message, "ABC", 3);
     lay(MESSAGE, side, 3, 3);
@@ -203,9 +216,9 @@ static void table_of_the_paper(void) {
     expect("yield", YIELD, 0, CSENGADRUL_DONE, 0, 2);
     expect("yield", YIELD, 0, CSENGADRUL_DONE, 0, 1);
     fresh();
-    create(1, 1, 1);
-    expect("stop", STOP, 1, CSENGADRUL_DONE, 0, 0);
-    create(1, 1, 1);
+    expect("create 1", CREATE, 1, CSENGADRUL_DONE, 257, 1);
+    expect("stop 257", STOP, 257, CSENGADRUL_DONE, 0, 0);
+    expect("create 1 again", CREATE, 1, CSENGADRUL_DONE, 513, 1);
     fresh();
     create(0, 1, 1);
     expect("class 0", CLASS, 0, CSENGADRUL_DONE, 0, 1);
@@ -288,13 +301,24 @@ static void large_numbers(void) {
     for (i = 0; i < sizeof large / sizeof *large; i++) {
         expect("create", CREATE, large[i], CSENGADRUL_NO_CLASS, 0, 1);
         expect("class", CLASS, large[i], CSENGADRUL_NO_CLASS, 0, 1);
-        expect("stop", STOP, large[i], CSENGADRUL_NO_PROCESS, 0, 1);
         expect("receive", RECEIVE, large[i], CSENGADRUL_NO_MAILBOX, 0, 1);
         expect("send", SEND, large[i], CSENGADRUL_NO_MAILBOX, 0, 1);
         expect("signal", SIGNAL, large[i], CSENGADRUL_NO_SEMAPHORE, 0, 1);
         expect("wait", WAIT, large[i], CSENGADRUL_NO_SEMAPHORE, 0, 1);
     }
-    expect("stop of an unused one", STOP, 2, CSENGADRUL_NO_PROCESS, 0, 1);
+}
+
+/* Names that are not that of process 1, the only one. Another width would take some of them for it. */
+static void other_names(void) {
+    static const uint32_t other[] = {0,   1,     2,     32,    33,    255,   256,    258,         287,         288,        289,
+                                     513, 65281, 65535, 65536, 65537, 65793, 131329, 0x80000101u, 0xffff0101u, 0xffffffffu};
+    size_t i;
+    fresh();
+    create(1, 1, 1);
+    for (i = 0; i < sizeof other / sizeof *other; i++) expect("stop", STOP, other[i], CSENGADRUL_NO_PROCESS, 0, 1);
+    for (i = 0; i < sizeof other / sizeof *other; i++)
+        if (other[i] != 0 && other[i] != 2) expect("why", WHY, other[i], CSENGADRUL_NO_PROCESS, 0, 1);
+    stop(1, 0);
 }
 
 /* Process 1 of class 1 runs with a message of 3 bytes in hand, and one of 5 is queued in mailbox 2:
@@ -439,11 +463,11 @@ static void listing(void) {
     usual();
 }
 
-/* Asks about a process and counts whether this is the reason. */
-static void why(uint32_t process, uint32_t running, uint32_t kind, uint32_t which, uint32_t ahead) {
-    outcome o = expect("why", WHY, process, CSENGADRUL_DONE, 0, running);
+/* Asks about a number by its name and counts whether this is the reason. */
+static void why(uint32_t number, uint32_t running, uint32_t kind, uint32_t which, uint32_t ahead) {
+    outcome o = expect("why", WHY, name(number), CSENGADRUL_DONE, 0, running);
     if (!is_reason(&o.reason, kind, which, ahead))
-        printf("why %lu: reason %lu %lu %lu, expected %lu %lu %lu\n", (unsigned long)process,
+        printf("why %lu: reason %lu %lu %lu, expected %lu %lu %lu\n", (unsigned long)name(number),
                (unsigned long)o.reason.kind, (unsigned long)o.reason.which, (unsigned long)o.reason.ahead,
                (unsigned long)kind, (unsigned long)which, (unsigned long)ahead);
     count(is_reason(&o.reason, kind, which, ahead), "the reason");
@@ -472,7 +496,7 @@ static void reasons_of_waiters(void) {
         why(4 + p, 0, CSENGADRUL_WHY_SEMAPHORE, 0, p);
     }
     why(7, 0, CSENGADRUL_WHY_UNUSED, 0, 0);
-    expect("stop", STOP, 2, CSENGADRUL_DONE, 0, 0);
+    stop(2, 0);
     why(2, 0, CSENGADRUL_WHY_UNUSED, 0, 0);
     why(3, 0, CSENGADRUL_WHY_MAILBOX, 15, 1);
     expect("signal", SIGNAL, 0, CSENGADRUL_DONE, 0, 4);
@@ -511,15 +535,14 @@ static void reasons_in_a_crowd(void) {
 }
 
 static void refused_questions(void) {
-    static const uint32_t beyond[] = {32, 33, 255, 256, 257, 65536, 65537, 0x80000000u, 0xffffffffu};
-    size_t i;
     fresh();
     expect("1 while 0 runs", WHY, 32, CSENGADRUL_NO_PROCESS, 0, 0);
+    expect("1 for a birth that never was", WHY, 257, CSENGADRUL_NO_PROCESS, 0, 0);
     create(1, 1, 1);
-    for (i = 0; i < sizeof beyond / sizeof *beyond; i++) expect("1", WHY, beyond[i], CSENGADRUL_NO_PROCESS, 0, 1);
+    expect("1 while 1 runs", WHY, 32, CSENGADRUL_NO_PROCESS, 0, 1);
     state[CSENGADRUL_OFFSET_RUNNING] = 2;
     expect("14 before 1", WHY, 32, CSENGADRUL_NOT_SOUND, 0, 0);
-    expect("14", WHY, 1, CSENGADRUL_NOT_SOUND, 0, 0);
+    expect("14", WHY, 257, CSENGADRUL_NOT_SOUND, 0, 0);
     expect("14 of process 0", WHY, 0, CSENGADRUL_NOT_SOUND, 0, 0);
     state[CSENGADRUL_OFFSET_RUNNING] = 1;
     lay(STATE, side, CSENGADRUL_STATE_SIZE - 1, CSENGADRUL_STATE_SIZE - 1);
@@ -528,6 +551,104 @@ static void refused_questions(void) {
     expect("14 before 1, of no area", WHY, 32, CSENGADRUL_NOT_SOUND, 0, 0);
     usual();
     why(1, 1, CSENGADRUL_WHY_RUNNING, 0, 0);
+}
+
+/* The crew's stale screen: process 2 was stopped and its number is in use again. */
+static void names_go_stale(void) {
+    fresh();
+    why(2, 0, CSENGADRUL_WHY_UNUSED, 0, 0);
+    expect("stop of one that never was", STOP, 2, CSENGADRUL_NO_PROCESS, 0, 0);
+    expect("create", CREATE, 1, CSENGADRUL_DONE, 257, 1);
+    expect("create", CREATE, 1, CSENGADRUL_DONE, 258, 1);
+    expect("stop", STOP, 258, CSENGADRUL_DONE, 0, 1);
+    expect("create", CREATE, 1, CSENGADRUL_DONE, 514, 1);
+    expect("stop from a stale screen", STOP, 258, CSENGADRUL_NO_PROCESS, 0, 1);
+    expect("why from a stale screen", WHY, 258, CSENGADRUL_NO_PROCESS, 0, 1);
+    expect("stop of a number alone", STOP, 2, CSENGADRUL_NO_PROCESS, 0, 1);
+    expect("why of a number alone", WHY, 2, CSENGADRUL_NO_PROCESS, 0, 1);
+    births[1] = 1; /* so often were they created above */
+    births[2] = 2;
+    why(2, 1, CSENGADRUL_WHY_READY, 0, 1);
+    stop(2, 1);
+    why(2, 1, CSENGADRUL_WHY_UNUSED, 0, 0);
+    expect("stop of an unused number by the name that it had last", STOP, 514, CSENGADRUL_NO_PROCESS, 0, 1);
+    expect("why of an unused number by an earlier name", WHY, 258, CSENGADRUL_NO_PROCESS, 0, 1);
+    expect("why of an unused number alone", WHY, 2, CSENGADRUL_NO_PROCESS, 0, 1);
+    expect("end", END, 0, CSENGADRUL_DONE, 0, 0);
+    create(1, 1, 1);
+    count(name(1) == 513, "who ended was born too");
+    why(0, 1, CSENGADRUL_WHY_BEHIND, 1, 0);
+    expect("why of 0 with a birth count", WHY, 256, CSENGADRUL_NO_PROCESS, 0, 1);
+    count(memcmp(state + CSENGADRUL_OFFSET_BIRTHS, births, sizeof births) == 0, "the state has the birth counts");
+}
+
+/* Of all names with this number the one that it has is taken, and no other. */
+static void only_its_name(uint32_t number, uint32_t running, uint32_t kind) {
+    uint32_t counted;
+    for (counted = 0; counted < 256; counted++)
+        if (counted != births[number])
+            expect("another birth count", WHY, number + 256 * counted, CSENGADRUL_NO_PROCESS, 0, running);
+    why(number, running, kind, 0, 0);
+}
+
+/* Process 2 is born and stopped until its names return. The name of its first birth is that of birth 257. */
+static void names_return(void) {
+    uint32_t birth, before;
+    fresh();
+    create(3, 1, 1);
+    for (birth = 1; birth <= 260; birth++) {
+        before = name(2);
+        create(4, 2, 2);
+        why(2, 2, CSENGADRUL_WHY_RUNNING, 0, 0);
+        expect("stop by the name before", STOP, before, CSENGADRUL_NO_PROCESS, 0, 2);
+        expect("why by the name before", WHY, before, CSENGADRUL_NO_PROCESS, 0, 2);
+        if (birth % 64 == 1 || birth % 128 > 125) only_its_name(2, 2, CSENGADRUL_WHY_RUNNING);
+        if (birth % 2) stop(2, 1);
+        else expect("end", END, 0, CSENGADRUL_DONE, 0, 1);
+        expect("stop again", STOP, name(2), CSENGADRUL_NO_PROCESS, 0, 1);
+        why(2, 1, CSENGADRUL_WHY_UNUSED, 0, 0);
+        if (birth % 128 > 125) only_its_name(2, 1, CSENGADRUL_WHY_UNUSED);
+        count(state[CSENGADRUL_OFFSET_BIRTHS + 2] == birth % 256, "the birth count");
+        if (birth == 255) count(name(2) == 65282, "the last name before they return");
+        if (birth == 256) count(name(2) == 2, "the number alone is the name of birth 256");
+        if (birth == 257) count(name(2) == 258, "the first name has returned");
+    }
+    why(1, 1, CSENGADRUL_WHY_RUNNING, 0, 0);
+}
+
+/* All numbers are born, stopped and born again: each has a birth count of its own. */
+static void names_of_all(void) {
+    uint32_t p;
+    fresh();
+    for (p = 1; p < CSENGADRUL_PROCESSES; p++) create(0, p, 1);
+    for (p = 2; p < CSENGADRUL_PROCESSES; p += 3) stop(p, 1);
+    for (p = 2; p < CSENGADRUL_PROCESSES; p += 3) create(0, p, 1);
+    stop(5, 1);
+    create(0, 5, 1);
+    count(name(4) == 260 && name(5) == 773 && name(8) == 520, "the names of 4, 5 and 8");
+    for (p = 1; p < CSENGADRUL_PROCESSES; p++) {
+        expect("a number alone", STOP, p, CSENGADRUL_NO_PROCESS, 0, 1);
+        expect("its next name", STOP, name(p) + 256, CSENGADRUL_NO_PROCESS, 0, 1);
+        expect("the name before", STOP, name(p) - 256, CSENGADRUL_NO_PROCESS, 0, 1);
+    }
+    for (p = CSENGADRUL_PROCESSES - 1; p > 1; p--) stop(p, 1);
+    count(memcmp(state + CSENGADRUL_OFFSET_BIRTHS, births, sizeof births) == 0, "the state has the birth counts");
+}
+
+/* A state may have any birth counts but for process 0, whose name is 0. */
+static void any_births(void) {
+    uint32_t p;
+    fresh();
+    for (p = 1; p < CSENGADRUL_PROCESSES; p++) state[CSENGADRUL_OFFSET_BIRTHS + p] = births[p] = (uint8_t)(8 * p + 7);
+    for (p = 0; p < CSENGADRUL_PROCESSES; p++)
+        why(p, 0, p ? CSENGADRUL_WHY_UNUSED : CSENGADRUL_WHY_RUNNING, 0, 0);
+    for (p = 1; p < CSENGADRUL_PROCESSES; p++) create(0, p, 1);
+    for (p = CSENGADRUL_PROCESSES - 1; p > 0; p--) stop(p, p > 1);
+    for (p = 1; p < 256; p++) {
+        state[CSENGADRUL_OFFSET_BIRTHS] = (uint8_t)p;
+        expect("a birth count of 0", TICK, 0, CSENGADRUL_NOT_SOUND, 0, 0);
+        expect("0 by that name", WHY, 256 * p, CSENGADRUL_NOT_SOUND, 0, 0);
+    }
 }
 
 /* Each of two processes of one class runs for a slice. */
@@ -635,7 +756,8 @@ static void damaged_slices(void) {
     with_slice(255, CSENGADRUL_NOT_SOUND, 0);
 }
 
-/* In a fresh image the counts may be anything, the slice anything but 0, and no other byte anything but what it is. */
+/* In a fresh image the counts may be anything, those of births too but for 0's, the slice anything but 0,
+ * and no other byte anything but what it is. */
 static void damaged_fresh_image(void) {
     static const uint8_t flips[] = {1, 0x80, 0xff};
     size_t i, j;
@@ -643,7 +765,8 @@ static void damaged_fresh_image(void) {
     for (i = 0; i < CSENGADRUL_STATE_SIZE; i++)
         for (j = 0; j < sizeof flips; j++) {
             state[i] ^= flips[j];
-            if (i < CSENGADRUL_OFFSET_COUNT) expect("a damaged byte", TICK, 0, CSENGADRUL_NOT_SOUND, 0, 0);
+            if (i < CSENGADRUL_OFFSET_COUNT || i == CSENGADRUL_OFFSET_BIRTHS)
+                expect("a damaged byte", TICK, 0, CSENGADRUL_NOT_SOUND, 0, 0);
             else expect("another count or slice", TICK, 0, CSENGADRUL_DONE, 0, 0);
             state[i] ^= flips[j];
         }
@@ -656,6 +779,9 @@ static void damaged_for_each_call(void) {
         state[0] = 2;
         expect("a state in which an unused process runs", call, 1, CSENGADRUL_NOT_SOUND, 0, 0);
         state[0] = 1;
+        state[CSENGADRUL_OFFSET_BIRTHS] = 1;
+        expect("a state in which 0 was born", call, 1, CSENGADRUL_NOT_SOUND, 0, 0);
+        state[CSENGADRUL_OFFSET_BIRTHS] = 0;
         state[CSENGADRUL_OFFSET_SLICE] = SLICE - 1;
         expect("a state in which one has more ticks than a slice", call, 1, CSENGADRUL_NOT_SOUND, 0, 0);
         memset(state, 0, sizeof state);
@@ -672,6 +798,7 @@ static void all(void) {
     table_of_the_paper();
     refusals_in_order();
     large_numbers();
+    other_names();
     other_lengths(state_of, CSENGADRUL_STATE_SIZE);
     other_lengths(store_of, CSENGADRUL_STORE_SIZE);
     message_lengths();
@@ -684,6 +811,10 @@ static void all(void) {
     reasons_of_the_ready();
     reasons_in_a_crowd();
     refused_questions();
+    names_go_stale();
+    names_return();
+    names_of_all();
+    any_births();
     slices_at_work();
     fresh_images();
     refused_slices();

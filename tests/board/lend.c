@@ -48,9 +48,9 @@ static int is_there(const area *a) {
 }
 
 /* The question, whose six numbers come back in a struct of its own. */
-__attribute__((noinline)) static csengadrul_answer ask(const uint8_t *state, size_t length, uint32_t process, csengadrul_reason *reason) {
+__attribute__((noinline)) static csengadrul_answer ask(const uint8_t *state, size_t length, uint32_t name, csengadrul_reason *reason) {
     csengadrul_answer answer;
-    *reason = csengadrul_why(state, length, process);
+    *reason = csengadrul_why(state, length, name);
     answer.code = reason->code;
     answer.number = reason->number;
     answer.running = reason->running;

@@ -20,9 +20,9 @@ csengadrul_answer faulty_release(uint8_t *state, size_t state_length) {
     return csengadrul_listing(state, state_length, rows, CSENGADRUL_PROCESSES);
 }
 
-/* Answers with a code that the rack does not count on. */
-csengadrul_answer faulty_stop(uint8_t *state, size_t state_length, uint32_t process) {
-    return csengadrul_stop(state, state_length, process + CSENGADRUL_PROCESSES);
+/* Answers with a code that the rack does not count on: the name is that of another birth. */
+csengadrul_answer faulty_stop(uint8_t *state, size_t state_length, uint32_t name) {
+    return csengadrul_stop(state, state_length, name + CSENGADRUL_BIRTHS);
 }
 
 /* A send is lost, and the handler is told that it is in the ring. */

@@ -136,7 +136,7 @@ int main(void) {
     unsigned long turn;
     uint32_t storm;
     csengadrul_fresh_slice(state, sizeof state, SLICE);
-    storm = csengadrul_create(state, sizeof state, STORM_CLASS).number;
+    storm = CSENGADRUL_NUMBER(csengadrul_create(state, sizeof state, STORM_CLASS).number);
     csengadrul_create(state, sizeof state, BUSY_CLASS);
     expect("there is a handler", signal(SIGALRM, handler) != SIG_ERR);
     for (turn = 0; turn < TURN_LIMIT && during < ENOUGH && !wrong; turn++) {

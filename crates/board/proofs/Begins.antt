@@ -9,8 +9,7 @@ use native.Mathlib.Omega.{arith}
 use lib.ListN.{length}
 use borrow.Author.Tests.{eq-eqb, ne-eqb}
 use Rattle.plain.specs.Calls as Plain
-use Rattle.plain.specs.Sound.{Set}
-use Rattle.plain.specs.Start.{freshStart}
+use Rattle.plain.specs.Start.{Set, freshStart}
 use Rattle.plain.specs.State.{Settings, start, fresh}
 use Rattle.plain_laws.proofs.Refusals.{first-given, find}
 use Rattle.plain_laws.proofs.Calls.{accepted}

@@ -13,7 +13,7 @@ use Rattle.plain.specs.State.{State, fresh}
 use Rattle.plain.specs.Why as Plain
 use Rattle.answers.specs.Answer.{line, readLine, bad}
 use Rattle.script.specs.Grammar.{Order, does, why, slice, order}
-use Rattle.promise.specs.Lent.{lends, isRoom}
+use Rattle.promise.specs.Lent.{Lent, nothing, bytes, room, lends}
 use Rattle.wording.specs.Words.{reasonLine}
 
 -- Where the desk stands: whether the next line is the first, and the state of the kernel.
@@ -28,6 +28,12 @@ atFirst = record { first = true; state = fresh }
 -- after any line, whatever it was
 abbrev pub later : State → Stand
 later s = record { first = false; state = s }
+
+-- whether a call takes a room
+abbrev pub isRoom : Lent → Bool
+isRoom nothing = false
+isRoom (bytes b) = false
+isRoom (room n) = true
 
 -- "code, number, running .. A successful read adds a space and the message in lowercase hex."
 abbrev pub textOf : Call → Answer → List ℕ → List ℕ

@@ -19,7 +19,7 @@ use Rattle.boxes.specs.Box as Box
 use Rattle.boxes.specs.Box.{num}
 use Rattle.plain.specs.Names.{Births}
 use Rattle.plain.specs.Sizes.{processes, mailboxes, buffers, semaphores}
-use Rattle.plain.specs.Sound.{Set}
+use Rattle.plain.specs.Start.{Set}
 use Rattle.plain.specs.State as State
 use Rattle.plain.specs.State.{Message, State, buffersOf}
 use Rattle.procs.specs.Stands as Stands

@@ -8,8 +8,7 @@ use lib.ListN.{replicate}
 use borrow.Author.Tests.{ne-eqb}
 use Rattle.plain.specs.Calls as Plain
 use Rattle.plain.specs.Sizes.{processes, semaphores}
-use Rattle.plain.specs.Sound.{Set}
-use Rattle.plain.specs.Start.{startRefusals, freshStart}
+use Rattle.plain.specs.Start.{Set, startRefusals, freshStart}
 use Rattle.plain.specs.State as State
 use Rattle.plain.specs.State.{start, fresh}
 use Rattle.plain_laws.proofs.Refusals.{Proper}

@@ -7,8 +7,7 @@ use mathlib.Core.Path.{_≡_, refl, sym}
 use native.Mathlib.Omega.{arith}
 use lib.Dec.{eqb}
 use Rattle.lists.proofs.Laws.{same?}
-use Rattle.plain.specs.Start.{longestSlice}
-use Rattle.plain.specs.Sound.{Set}
+use Rattle.plain.specs.Start.{Set, longestSlice}
 use Rattle.rings.specs.Decides.{Decides}
 use borrow.Author.Tests.{eq-eqb, ne-eqb}
 use Rattle.kernel.specs.Holds.{named}

@@ -20,7 +20,8 @@ use Rattle.rings.specs.Walk.{Stand}
 use Rattle.plain.specs.Calls.{isEmpty}
 use Rattle.plain.specs.Sizes.{processes, mailboxes, semaphores, queues, highestCount, atMailbox, atSemaphore}
 use Rattle.plain.specs.Names.{Births}
-use Rattle.plain.specs.Sound.{Sound, Set as Settled, Seated, Highest, Mail, In}
+use Rattle.plain.specs.Sound.{Sound, Seated, Highest, Mail, In}
+use Rattle.plain.specs.Start.{Set as Settled}
 use Rattle.plain.specs.State as State
 use Rattle.plain.specs.State.{Message, State, places}
 use Rattle.plain_laws.proofs.Places.{runs-once}

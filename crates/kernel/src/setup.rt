@@ -1,7 +1,7 @@
 // The settings: those that hold where none are named, and whether what stands in them may be set.
 ghost use mathlib.Core.Path.{_≡_};
 ghost use Rattle.rings.specs.Decides.{Decides};
-ghost use Rattle.plain.specs.Sound.{Set};
+ghost use Rattle.plain.specs.Start.{Set};
 ghost use Rattle.plain.specs.State.{usual};
 ghost use Rattle.kernel.specs.Holds.{named};
 use crate::Settings;

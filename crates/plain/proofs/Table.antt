@@ -7,8 +7,8 @@ use native.Mathlib.Omega.{arith}
 use lib.ListN.{replicate}
 use Rattle.lists.specs.Lists.{total, lowest}
 use Rattle.plain.specs.Sizes.{capacity, bufferSize, longest, highestCount}
-use Rattle.plain.specs.State.{State, fresh, born, spots, held, freeProcess, freeBuffer}
-use Rattle.plain.specs.Names.{raised, name, bare, names}
+use Rattle.plain.specs.State.{State, fresh, spots, held, freeProcess, freeBuffer}
+use Rattle.plain.specs.Names.{born, raised, name, bare, names}
 use Rattle.plain.specs.Runs.{choose, chooseBelow, join, standDown, makeReady, goTo, remove, halt}
 use Rattle.plain.specs.Calls.{Call, Answer, create, stop, end, yield, class, tick, send, receive, read, release, signal, wait, perform, refusals, step, answers, after}
 use Rattle.plain.specs.Start.{longestSlice, sliceOf, freshStart}

@@ -8,8 +8,8 @@ use lib.ListN.{length}
 use lib.Dec.{ltb, leb, eqb}
 use Rattle.lists.specs.Lists.{if_then_else_}
 use Rattle.plain.specs.Sizes.{processes, classes, mailboxes, capacity, buffers, longest, semaphores, highestCount, atMailbox, atSemaphore}
-use Rattle.plain.specs.State.{Message, Procs, State, level, line, rank, left, move, give, fill, score, born, unused, freeProcess, freeBuffer}
-use Rattle.plain.specs.Names.{raised, name, bare, names}
+use Rattle.plain.specs.State.{Message, Procs, State, level, line, rank, left, move, give, fill, score, unused, freeProcess, freeBuffer}
+use Rattle.plain.specs.Names.{born, raised, name, bare, names}
 use Rattle.plain.specs.Runs.{makeReady, goTo, halt}
 
 pub data Call : Type 0 where
@@ -44,10 +44,6 @@ answering code number message s = record { answer = record { code = code; number
 -- "0: done"
 abbrev pub done : ℕ → State → Outcome
 done number s = answering 0 number [] s
-
--- "32: done, the caller waits"
-abbrev pub waits : State → Outcome
-waits s = answering 32 0 [] s
 
 -- "Caller" is the running process.
 abbrev pub caller : State → ℕ
@@ -100,9 +96,9 @@ abbrev pub deliver : ℕ → Message → List ℕ → State → State
 deliver m x [] s = fill m (s .box m ++ (x ∷ [])) s
 deliver m x (w ∷ l) s = give w (some x) (woken (atMailbox m) w l s)
 
--- "the caller joins the rear of the waiters; choose; answer 32"
+-- "the caller joins the rear of the waiters; choose; answer 32", which is "done, the caller waits"
 abbrev pub waitAt : ℕ → State → Outcome
-waitAt q s = waits (move (goTo (s .settings .slice) q (s .procs)) s)
+waitAt q s = answering 32 0 [] (move (goTo (s .settings .slice) q (s .procs)) s)
 
 -- "the first message of m goes into the caller's hand, number answered: its length. If m is empty the caller joins the rear of its waiters"
 abbrev pub fetch : ℕ → List Message → State → Outcome

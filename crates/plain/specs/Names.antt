@@ -1,10 +1,12 @@
--- Request 4, names: "01 lets a bare number name a process; that was wrong." Each number's birth count is kept in the state, as a function here.
+-- Request 4, names: "01 lets a bare number name a process; that was wrong." Each number's birth count is kept in the state.
 -- Assumes nothing.
 use Prim.Native.Nat.{ℕ, _+_, _*_, _%_, _≤_, _<_}
 use mathlib.Core.Bool.{Bool, _&&_}
 use mathlib.Core.Path.{_≡_}
 use lib.Dec.{ltb, eqb}
+use Rattle.lists.specs.Lists.{put}
 use Rattle.plain.specs.Sizes.{processes}
+use Rattle.plain.specs.State.{State}
 
 -- "A name returns after 256 births"
 abbrev pub rounds : ℕ
@@ -13,6 +15,10 @@ rounds = 256
 -- "raised by 1 at each create of it, from 255 back to 0"
 unfoldable pub raised : ℕ → ℕ
 raised b = (b + 1) % rounds
+
+-- number p has birth count b
+abbrev pub born : ℕ → ℕ → State → State
+born p b s = record { procs = s .procs; hand = s .hand; box = s .box; count = s .count; births = put (s .births) p b; settings = s .settings }
 
 -- "A name is the number plus 256 times its birth count"
 unfoldable pub name : (ℕ → ℕ) → ℕ → ℕ

@@ -8,9 +8,9 @@ use mathlib.Core.Option.{Option, none, some}
 use lib.ListN.{length}
 use Rattle.lists.specs.Lists.{occurs}
 use Rattle.plain.specs.Sizes.{processes, classes, mailboxes, capacity, buffers, longest, semaphores, highestCount, atMailbox, atSemaphore, queues}
-use Rattle.plain.specs.State.{Message, Procs, Settings, State, level, places, held}
+use Rattle.plain.specs.State.{Message, Procs, State, level, places, held}
 use Rattle.plain.specs.Names.{Births}
-use Rattle.plain.specs.Start.{longestSlice}
+use Rattle.plain.specs.Start.{Set}
 
 -- p stands in queue q; who stands in none and does not run is unused
 abbrev pub In : Procs → ℕ → ℕ → Type 0
@@ -27,11 +27,6 @@ AllShort (x ∷ l) = (length (x .bytes) ≤ longest) × AllShort l
 abbrev pub Short : Option Message → Type 0
 Short none = Unit {0}
 Short (some x) = length (x .bytes) ≤ longest
-
--- Request 3: "the slice as a setting, 1 to 255"
-pub record Set (settings : Settings) : Type 0 where
-  pub some-ticks : 1 ≤ settings .slice
-  pub not-over : settings .slice ≤ longestSlice
 
 -- The processes, `slice` ticks to a slice. What is said of the runner says nothing where 0 runs, so it also holds midway in a call, before one is chosen.
 pub record Seated (slice : ℕ) (s : Procs) : Type 0 where

@@ -1,6 +1,6 @@
 -- The fresh start, a call of its own: request 3's "A fresh kernel takes the slice as a setting".
 -- Assumes nothing.
-use Prim.Native.Nat.{ℕ}
+use Prim.Native.Nat.{ℕ, _≤_}
 use mathlib.Core.Bool.{_||_}
 use mathlib.Core.List.{List, [], _∷_}
 use lib.Dec.{ltb, eqb}
@@ -10,6 +10,10 @@ use Rattle.plain.specs.Calls.{Refusal, on, Outcome, done, judge}
 -- "the slice as a setting, 1 to 255"
 unfoldable pub longestSlice : ℕ
 longestSlice = 255
+
+pub record Set (settings : Settings) : Type 0 where
+  pub some-ticks : 1 ≤ settings .slice
+  pub not-over : settings .slice ≤ longestSlice
 
 -- where n ticks are named
 abbrev pub sliceOf : ℕ → Settings

@@ -86,10 +86,6 @@ fill m l s = record { procs = s .procs; hand = s .hand; box = put (s .box) m l; 
 abbrev pub score : ℕ → ℕ → State → State
 score k n s = record { procs = s .procs; hand = s .hand; box = s .box; count = put (s .count) k n; births = s .births; settings = s .settings }
 
--- number p has birth count b
-abbrev pub born : ℕ → ℕ → State → State
-born p b s = record { procs = s .procs; hand = s .hand; box = s .box; count = s .count; births = put (s .births) p b; settings = s .settings }
-
 -- ---- who stands where: unused and free are those who stand nowhere
 
 -- in how many places p is: running, or in a queue

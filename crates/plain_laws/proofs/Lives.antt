@@ -14,7 +14,8 @@ use Rattle.plain.specs.Sizes.{processes, classes}
 use Rattle.plain.specs.State.{Procs, Settings, State, start, places, unused, freeProcess}
 use Rattle.plain.specs.Names.{rounds, raised, name, bare, names}
 use Rattle.plain.specs.Calls.{Call, create, stop, Outcome, noProcess, on, done, refused, stopped, perform, refusals, step, after}
-use Rattle.plain.specs.Sound.{Set, Used, Sound}
+use Rattle.plain.specs.Sound.{Used, Sound}
+use Rattle.plain.specs.Start.{Set}
 use Rattle.plain.specs.Why as Why
 use Rattle.plain_laws.specs.History.{Passed, as-one, isDone, isRefusal, Moment, moments}
 use Rattle.plain_laws.specs.Names.{begins, ends, bornIn, stoppedIn, Taken, noSuch, Fate}

@@ -13,12 +13,12 @@ use borrow.Author.Tests.{ltb-false, leb-false, eqb-false, not-false}
 use Rattle.lists.specs.Lists.{put, occurs}
 use Rattle.lists.proofs.Laws.{same?, put-same, put-other, put-cases, one-other, total-zero}
 use Rattle.plain.specs.Sizes.{processes, classes, mailboxes, semaphores, queues, capacity, longest, highestCount, atMailbox, atSemaphore}
-use Rattle.plain.specs.State.{Message, Procs, Settings, State, start, usual, move, give, fill, score, born, line, rank, places, spots, held, freeProcess, freeBuffer}
-use Rattle.plain.specs.Names.{rounds, raised, bare}
-use Rattle.plain.specs.Start.{longestSlice}
+use Rattle.plain.specs.State.{Message, Procs, Settings, State, start, usual, move, give, fill, score, line, rank, places, spots, held, freeProcess, freeBuffer}
+use Rattle.plain.specs.Names.{rounds, born, raised, bare}
+use Rattle.plain.specs.Start.{Set, longestSlice}
 use Rattle.plain.specs.Runs.{makeReady, goTo, halt}
 use Rattle.plain.specs.Calls.{Call, create, stop, end, yield, class, tick, send, receive, read, release, signal, wait, perform, refusals, step, after, created, stopped, deliver, fetch, wake, claim, isEmpty}
-use Rattle.plain.specs.Sound.{Set, Seated, Mail, Hands, Waits, Counts, Sound, In}
+use Rattle.plain.specs.Sound.{Seated, Mail, Hands, Waits, Counts, Sound, In}
 use Rattle.plain_laws.specs.History.{Passed, kind, isTick, as-one}
 use Rattle.plain_laws.specs.Names.{begins}
 use Rattle.plain_laws.proofs.Names.{birth-sound, unborn, reborn}

@@ -9,8 +9,8 @@ use lib.Dec.{ltb, eqb}
 use borrow.Author.Tests.{eqb-false, ltb-false, ne-eqb, le-ltb}
 use Rattle.lists.proofs.Laws.{either}
 use Rattle.plain.specs.Calls.{Outcome, done, refused}
-use Rattle.plain.specs.Sound.{Set, Sound}
-use Rattle.plain.specs.Start.{longestSlice, noSlice, freshStart}
+use Rattle.plain.specs.Sound.{Sound}
+use Rattle.plain.specs.Start.{Set, longestSlice, noSlice, freshStart}
 use Rattle.plain.specs.State.{Settings, start, usual, fresh}
 use Rattle.plain_laws.proofs.Sound.{usual-set, start-sound}
 

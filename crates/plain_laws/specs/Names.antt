@@ -8,7 +8,8 @@ use Rattle.plain.specs.Sizes.{processes}
 use Rattle.plain.specs.State.{Procs, Settings, State, start, unused}
 use Rattle.plain.specs.Names.{rounds, name, bare}
 use Rattle.plain.specs.Calls.{Call, create, stop, Outcome, on, done, refused, stopped, step, after}
-use Rattle.plain.specs.Sound.{Set, Used}
+use Rattle.plain.specs.Sound.{Used}
+use Rattle.plain.specs.Start.{Set}
 use Rattle.plain.specs.Why as Why
 use Rattle.plain_laws.specs.History.{as-one, isDone, Moment, moments}
 use Rattle.plain_laws.specs.Theorems.{Kernel, AnswersAsPlain}

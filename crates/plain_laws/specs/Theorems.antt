@@ -7,8 +7,8 @@ use mathlib.Core.List.{List, [], _∷_, map}
 use lib.ListN.{length}
 use Rattle.plain.specs.State.{Procs, Settings, State, start, usual, fresh}
 use Rattle.plain.specs.Calls.{Call, create, yield, Answer, Refusal, done, refusals, refused, step, answers, after}
-use Rattle.plain.specs.Start.{noSlice, startRefusals, freshStart}
-use Rattle.plain.specs.Sound.{Set, Sound}
+use Rattle.plain.specs.Start.{Set, noSlice, startRefusals, freshStart}
+use Rattle.plain.specs.Sound.{Sound}
 use Rattle.plain_laws.specs.History.{First, codes, inOrder, order, isRefusal, sent, gone, Ready, isAhead, countAhead, Moment, moments, ticksSeen, turnsBefore, overtaken, lastFirst}
 
 -- 1. A fresh state is sound with any settings x that may be set, the usual ones among them; every call keeps that, and so every state that calls lead to from fresh is sound. No call changes the settings: the slice "is fixed at the fresh start".

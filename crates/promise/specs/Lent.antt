@@ -1,7 +1,6 @@
 -- What a call is lent beside the state.
 -- Assumes nothing.
 use Prim.Native.Nat.{ℕ}
-use mathlib.Core.Bool.{Bool, true, false}
 use mathlib.Core.List.{List}
 use Rattle.plain.specs.Calls as Plain
 
@@ -24,8 +23,3 @@ lends (Plain.read n) = room n
 lends Plain.release = nothing
 lends (Plain.signal k) = nothing
 lends (Plain.wait k) = nothing
-
-abbrev pub isRoom : Lent → Bool
-isRoom nothing = false
-isRoom (bytes b) = false
-isRoom (room n) = true

@@ -7,7 +7,7 @@ use lib.ListN.{length}
 use Rattle.plain.specs.Calls as Plain
 use Rattle.plain.specs.Names.{bare}
 use Rattle.plain.specs.Sizes.{storeSize}
-use Rattle.plain.specs.Sound.{Set}
+use Rattle.plain.specs.Start.{Set}
 use Rattle.plain.specs.State.{Procs, Settings, State, start}
 use Rattle.plain_laws.specs.Names.{Fate}
 use Rattle.promise.specs.Theorems.{Heard, Seats, Step, Run, seen}

@@ -7,6 +7,7 @@ use crate::why::Reason;
 #[derive(Clone, Debug, PartialEq, Eq)]
 pub enum Call {
     Create(u32),
+    /// By name, as `Why`.
     Stop(u32),
     End,
     Yield,
@@ -34,7 +35,7 @@ impl Kernel {
     pub fn apply(&mut self, call: &Call) -> (Answer, Option<Told>) {
         let answer = match call {
             Call::Create(class) => self.create(*class),
-            Call::Stop(process) => self.stop(*process),
+            Call::Stop(name) => self.stop(*name),
             Call::End => self.end(),
             Call::Yield => self.yield_now(),
             Call::Class(class) => self.class(*class),
@@ -48,8 +49,8 @@ impl Kernel {
             Call::Release => self.release(),
             Call::Signal(semaphore) => self.signal(*semaphore),
             Call::Wait(semaphore) => self.wait(*semaphore),
-            Call::Why(process) => {
-                let (answer, reason) = self.why(*process);
+            Call::Why(name) => {
+                let (answer, reason) = self.why(*name);
                 return (answer, reason.map(Told::Reason));
             }
         };

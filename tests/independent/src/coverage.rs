@@ -1,11 +1,12 @@
-//! What random scripts reached: the slices named, the codes answered, the reasons told and the deepest states, to show that
-//! they are worth comparing.
+//! What random scripts reached: the slices named, the codes answered, the names taken, the reasons told and the deepest states,
+//! to show that they are worth comparing.
 
 use crate::answer::*;
 use crate::call::Call;
 use crate::desk::Desk;
 use crate::grammar::{named_slice, parse};
 use crate::kernel::*;
+use crate::names::{Born, Kind, IN_SCRIPTS};
 use crate::scripts::Questioned;
 use crate::why::KINDS;
 use std::collections::{BTreeMap, BTreeSet};
@@ -37,7 +38,12 @@ pub struct Coverage {
     pub named_later_after: BTreeSet<&'static str>,
     /// Slices that a process used up, tick by tick.
     pub used_up: BTreeSet<u32>,
+    /// How often a name of each kind was given to each call that takes one.
+    pub names: BTreeMap<(&'static str, Kind), u64>,
 }
+
+/// The calls that take a name.
+const NAMING: [&str; 2] = ["stop", "why"];
 
 /// Stands for every first line that does not begin with `slice`.
 const ANOTHER: &str = "another";
@@ -65,10 +71,13 @@ impl Coverage {
         let mut script = Questioned::new(seed, lines);
         self.styles.insert(script.style());
         let mut desk = Desk::fresh();
+        let mut born = Born::default();
         let mut begun_with = None;
         while let Some(line) = script.next_line() {
             let spends_the_last_tick = line == b"tick" && has_one_tick(desk.kernel());
+            self.add_name(&born, desk.kernel(), &line);
             let answer = desk.answer(&line);
+            born.follow(desk.kernel());
             self.lines += 1;
             match begun_with {
                 None => {
@@ -86,7 +95,7 @@ impl Coverage {
             match answer.split(' ').next().and_then(|code| code.parse().ok()) {
                 None => self.bad_lines += 1,
                 Some(code) => match parse(&line) {
-                    Some(Call::Why(process)) => self.add_question(desk.kernel(), process),
+                    Some(Call::Why(name)) => self.add_question(desk.kernel(), name),
                     _ => *self.codes.entry(code).or_default() += 1,
                 },
             }
@@ -99,8 +108,17 @@ impl Coverage {
         *self.first_lines.entry(slice.unwrap_or(ANOTHER.to_string())).or_default() += 1;
     }
 
-    fn add_question(&mut self, kernel: &Kernel, process: u32) {
-        let Some(reason) = kernel.why(process).1 else {
+    fn add_name(&mut self, born: &Born, kernel: &Kernel, line: &[u8]) {
+        let (call, name) = match parse(line) {
+            Some(Call::Stop(name)) => (NAMING[0], name),
+            Some(Call::Why(name)) => (NAMING[1], name),
+            _ => return,
+        };
+        *self.names.entry((call, born.kind(kernel, name))).or_default() += 1;
+    }
+
+    fn add_question(&mut self, kernel: &Kernel, name: u32) {
+        let Some(reason) = kernel.why(name).1 else {
             self.refused_questions += 1;
             return;
         };
@@ -108,7 +126,7 @@ impl Coverage {
         let (times, most) = self.reasons.entry(kind).or_default();
         *times += 1;
         *most = ahead.max(*most);
-        if process == 0 {
+        if name == 0 {
             self.reasons_of_0.insert(kind);
         }
     }
@@ -163,6 +181,11 @@ impl Coverage {
         for slice in [1, 2, 3, USUAL_SLICE, LONGEST_SLICE] {
             want(self.used_up.contains(&slice), &format!("a slice of {slice} used up"));
         }
+        for call in NAMING {
+            for kind in IN_SCRIPTS {
+                want(self.names.contains_key(&(call, kind)), &format!("{call} of {}", kind.words()));
+            }
+        }
         missing
     }
 }
@@ -192,6 +215,8 @@ impl fmt::Display for Coverage {
         writeln!(out, "; reasons by kind, with the most ahead, {}; {} questions refused", reasons.join(" "), self.refused_questions)?;
         let first_lines: Vec<String> = self.first_lines.iter().map(|(line, times)| format!("{line}:{times}")).collect();
         let used_up: Vec<String> = self.used_up.iter().map(u32::to_string).collect();
-        write!(out, "  first lines {}; slices used up {}", first_lines.join(", "), used_up.join(" "))
+        writeln!(out, "  first lines {}; slices used up {}", first_lines.join(", "), used_up.join(" "))?;
+        let names: Vec<String> = self.names.iter().map(|((call, kind), times)| format!("{call} {kind:?}:{times}")).collect();
+        write!(out, "  names {}", names.join(" "))
     }
 }

@@ -127,34 +127,34 @@ mod tests {
     fn sample() {
         check_at_3(
             "create 2\ncreate 2\ntick\nsend 3 414243\nreceive 3\nread 2\nread 512\nend\nfrob\n",
-            "0 1 1\n0 2 1\n0 0 1\n0 0 1\n0 3 1\n9 3 1\n0 3 1 414243\n0 0 2\nbad\n",
+            "0 257 1\n0 258 1\n0 0 1\n0 0 1\n0 3 1\n9 3 1\n0 3 1 414243\n0 0 2\nbad\n",
         );
     }
 
     #[test]
     fn proved_edges() {
         answers("tick", "0 0 0");
-        answers("create 2, create 2, tick, tick, tick", "0 1 1, 0 2 1, 0 0 1, 0 0 1, 0 0 2");
+        answers("create 2, create 2, tick, tick, tick", "0 257 1, 0 258 1, 0 0 1, 0 0 1, 0 0 2");
         answers(
             "create 2, create 2, tick, create 4, end, tick, tick",
-            "0 1 1, 0 2 1, 0 0 1, 0 3 3, 0 0 1, 0 0 1, 0 0 2",
+            "0 257 1, 0 258 1, 0 0 1, 0 259 3, 0 0 1, 0 0 1, 0 0 2",
         );
-        answers("create 4", "0 1 1");
+        answers("create 4", "0 257 1");
         answers("create 5", "2 0 0");
-        answers("create 1, receive 0, send 0 010203", "0 1 1, 32 0 0, 0 0 1");
-        answers("create 3, create 3, yield, yield", "0 1 1, 0 2 1, 0 0 2, 0 0 1");
-        answers("create 1, stop 1, create 1", "0 1 1, 0 0 0, 0 1 1");
-        answers("create 0, class 0, class 4", "0 1 1, 0 0 1, 0 0 1");
+        answers("create 1, receive 0, send 0 010203", "0 257 1, 32 0 0, 0 0 1");
+        answers("create 3, create 3, yield, yield", "0 257 1, 0 258 1, 0 0 2, 0 0 1");
+        answers("create 1, stop 257, create 1", "0 257 1, 0 0 0, 0 513 1");
+        answers("create 0, class 0, class 4", "0 257 1, 0 0 1, 0 0 1");
         answers("stop 0, stop 32, yield", "1 0 0, 1 0 0, 5 0 0");
         // The last wait shows that the count is still 0.
-        answers("create 1, wait 15, signal 15, wait 15", "0 1 1, 32 0 0, 0 0 1, 32 0 0");
+        answers("create 1, wait 15, signal 15, wait 15", "0 257 1, 32 0 0, 0 0 1, 32 0 0");
     }
 
     #[test]
     fn process_numbers_run_out() {
-        let mut expected: String = (1..=31).map(|number| format!("0 {number} 1\n")).collect();
-        expected += "10 0 1\n2 0 1\n0 0 1\n0 7 1\n10 0 1\n";
-        check_at_3(&("create 0\n".repeat(32) + "create 5\nstop 7\ncreate 0\ncreate 4\n"), &expected);
+        let mut expected: String = (257..=287).map(|name| format!("0 {name} 1\n")).collect();
+        expected += "10 0 1\n2 0 1\n0 0 1\n0 519 1\n10 0 1\n";
+        check_at_3(&("create 0\n".repeat(32) + "create 5\nstop 263\ncreate 0\ncreate 4\n"), &expected);
     }
 
     #[test]
@@ -167,7 +167,7 @@ mod tests {
         answers(&send(16, 513), "3 0 0");
         answers(
             &format!("create 1, {}, receive 0, read 511, read 512, {}, release, receive 0", send(0, 512), send(0, 513)),
-            &format!("0 1 1, 0 0 1, 0 512 1, 9 512 1, 0 512 1 {}, 6 0 1, 0 0 1, 32 0 0", "5a".repeat(512)),
+            &format!("0 257 1, 0 0 1, 0 512 1, 9 512 1, 0 512 1 {}, 6 0 1, 0 0 1, 32 0 0", "5a".repeat(512)),
         );
     }
 
@@ -181,7 +181,7 @@ mod tests {
     #[test]
     fn counts_run_out() {
         let script = "signal 3\n".repeat(65_536) + "create 0\nwait 3\nsignal 3\nsignal 3\nsignal 16\n";
-        let expected = "0 0 0\n".repeat(65_535) + "13 0 0\n0 1 1\n0 0 1\n0 0 1\n13 0 1\n4 0 1\n";
+        let expected = "0 0 0\n".repeat(65_535) + "13 0 0\n0 257 1\n0 0 1\n0 0 1\n13 0 1\n4 0 1\n";
         check_at_3(&script, &expected);
     }
 
@@ -189,14 +189,14 @@ mod tests {
     fn empty_messages() {
         answers(
             "create 1, send 2 -, receive 2, read 0, read 512, receive 2, release, read 0, release",
-            "0 1 1, 0 0 1, 0 0 1, 0 0 1 -, 0 0 1 -, 7 0 1, 0 0 1, 8 0 1, 8 0 1",
+            "0 257 1, 0 0 1, 0 0 1, 0 0 1 -, 0 0 1 -, 7 0 1, 0 0 1, 8 0 1, 8 0 1",
         );
     }
 
     #[test]
     fn refusals_in_order() {
         answers("class 5, receive 16, wait 16, read 0, release, end", "5 0 0, 5 0 0, 5 0 0, 5 0 0, 5 0 0, 5 0 0");
-        answers("create 1, send 0 -, receive 0, receive 16, receive 0, class 5, wait 16", "0 1 1, 0 0 1, 0 0 1, 3 0 1, 7 0 1, 2 0 1, 4 0 1");
+        answers("create 1, send 0 -, receive 0, receive 16, receive 0, class 5, wait 16", "0 257 1, 0 0 1, 0 0 1, 3 0 1, 7 0 1, 2 0 1, 4 0 1");
     }
 
     #[test]
@@ -204,24 +204,24 @@ mod tests {
         // A sent message goes to the first waiter and isn't queued; a higher waiter preempts.
         answers(
             "create 1, create 3, receive 5, receive 5, send 5 aa, read 1, send 5 bb, read 1, end, read 1",
-            "0 1 1, 0 2 2, 32 0 1, 32 0 0, 0 0 2, 0 1 2 aa, 0 0 2, 0 1 2 aa, 0 0 1, 0 1 1 bb",
+            "0 257 1, 0 258 2, 32 0 1, 32 0 0, 0 0 2, 0 1 2 aa, 0 0 2, 0 1 2 aa, 0 0 1, 0 1 1 bb",
         );
         // A stopped waiter gets nothing; a stopped holder frees its buffer.
-        answers("create 1, wait 0, stop 1, signal 0, create 1, wait 0", "0 1 1, 32 0 0, 0 0 0, 0 0 0, 0 1 1, 0 0 1");
+        answers("create 1, wait 0, stop 257, signal 0, create 1, wait 0", "0 257 1, 32 0 0, 0 0 0, 0 0 0, 0 513 1, 0 0 1");
         let holder = "create 0\n".to_string() + &"send 0 00\nsend 1 00\nsend 2 00\nsend 3 00\n".repeat(8);
         check_at_3(
-            &(holder + "receive 0\nsend 4 00\nstop 1\nsend 4 00\nsend 4 00\n"),
-            &("0 1 1\n".to_string() + &"0 0 1\n".repeat(32) + "0 1 1\n12 0 1\n0 0 0\n0 0 0\n12 0 0\n"),
+            &(holder + "receive 0\nsend 4 00\nstop 257\nsend 4 00\nsend 4 00\n"),
+            &("0 257 1\n".to_string() + &"0 0 1\n".repeat(32) + "0 1 1\n12 0 1\n0 0 0\n0 0 0\n12 0 0\n"),
         );
     }
 
     #[test]
     fn changing_class() {
         // Same class keeps the ticks; another gives a whole slice and the rear.
-        answers("create 2, create 2, tick, tick, class 2, tick", "0 1 1, 0 2 1, 0 0 1, 0 0 1, 0 0 1, 0 0 2");
+        answers("create 2, create 2, tick, tick, class 2, tick", "0 257 1, 0 258 1, 0 0 1, 0 0 1, 0 0 1, 0 0 2");
         answers(
             "create 2, create 3, class 2, tick, tick, tick, tick, tick, tick",
-            "0 1 1, 0 2 2, 0 0 1, 0 0 1, 0 0 1, 0 0 2, 0 0 2, 0 0 2, 0 0 1",
+            "0 257 1, 0 258 2, 0 0 1, 0 0 1, 0 0 1, 0 0 2, 0 0 2, 0 0 2, 0 0 1",
         );
     }
 
@@ -229,7 +229,7 @@ mod tests {
     fn turns(first_lines: &str, answered: &str, ticks: &[u32]) {
         let script = format!("{first_lines}create 2\ncreate 2\n{}", "tick\n".repeat(ticks.len()));
         let after: String = ticks.iter().map(|running| format!("0 0 {running}\n")).collect();
-        check(&script, &format!("{answered}0 1 1\n0 2 1\n{after}"));
+        check(&script, &format!("{answered}0 257 1\n0 258 1\n{after}"));
     }
 
     #[test]
@@ -272,33 +272,69 @@ mod tests {
         // One that is preempted keeps the 4 of 5 ticks that it has left.
         check_list(
             "create 2, create 2, tick, create 4, end, tick, tick, tick, tick",
-            "0 1 1, 0 2 1, 0 0 1, 0 3 3, 0 0 1, 0 0 1, 0 0 1, 0 0 1, 0 0 2",
+            "0 257 1, 0 258 1, 0 0 1, 0 259 3, 0 0 1, 0 0 1, 0 0 1, 0 0 1, 0 0 2",
         );
         // One that yields, that waited, or that comes from another class has a whole one.
-        check_list("slice 2, create 1, create 1, tick, yield, yield, tick, tick", "0 0 0, 0 1 1, 0 2 1, 0 0 1, 0 0 2, 0 0 1, 0 0 1, 0 0 2");
+        check_list("slice 2, create 1, create 1, tick, yield, yield, tick, tick", "0 0 0, 0 257 1, 0 258 1, 0 0 1, 0 0 2, 0 0 1, 0 0 1, 0 0 2");
         check_list(
             "slice 2, create 1, tick, wait 0, create 1, signal 0, yield, tick, tick",
-            "0 0 0, 0 1 1, 0 0 1, 32 0 0, 0 2 2, 0 0 2, 0 0 1, 0 0 1, 0 0 2",
+            "0 0 0, 0 257 1, 0 0 1, 32 0 0, 0 258 2, 0 0 2, 0 0 1, 0 0 1, 0 0 2",
         );
         check_list(
             "slice 2, create 1, tick, receive 0, create 1, send 0 -, yield, tick, tick",
-            "0 0 0, 0 1 1, 0 0 1, 32 0 0, 0 2 2, 0 0 2, 0 0 1, 0 0 1, 0 0 2",
+            "0 0 0, 0 257 1, 0 0 1, 32 0 0, 0 258 2, 0 0 2, 0 0 1, 0 0 1, 0 0 2",
         );
-        check_list("slice 2, create 1, create 3, tick, class 1, yield, tick, tick", "0 0 0, 0 1 1, 0 2 2, 0 0 2, 0 0 1, 0 0 2, 0 0 2, 0 0 1");
+        check_list("slice 2, create 1, create 3, tick, class 1, yield, tick, tick", "0 0 0, 0 257 1, 0 258 2, 0 0 2, 0 0 1, 0 0 2, 0 0 2, 0 0 1");
     }
 
     #[test]
     fn questions() {
         answers("why 0, why 1, why 31, why 32, why 65535", "0 0 0 running, 0 0 0 unused, 0 0 0 unused, 1 0 0, 1 0 0");
         answers(
-            "create 2, create 2, create 2, create 0, why 0, why 1, why 2, why 3, why 4, why 32",
-            "0 1 1, 0 2 1, 0 3 1, 0 4 1, 0 0 1 behind 1, 0 0 1 running, 0 0 1 ready 1, 0 0 1 ready 2, 0 0 1 behind 1, 1 0 1",
+            "create 2, create 2, create 2, create 0, why 0, why 257, why 258, why 259, why 260, why 32",
+            "0 257 1, 0 258 1, 0 259 1, 0 260 1, 0 0 1 behind 1, 0 0 1 running, 0 0 1 ready 1, 0 0 1 ready 2, 0 0 1 behind 1, 1 0 1",
         );
         answers(
-            "create 1, receive 12, create 1, receive 12, create 1, wait 0, why 0, why 1, why 2, why 3",
-            "0 1 1, 32 0 0, 0 2 2, 32 0 0, 0 3 3, 32 0 0, 0 0 0 running, 0 0 0 mailbox 12 0, 0 0 0 mailbox 12 1, 0 0 0 semaphore 0 0",
+            "create 1, receive 12, create 1, receive 12, create 1, wait 0, why 0, why 257, why 258, why 259",
+            "0 257 1, 32 0 0, 0 258 2, 32 0 0, 0 259 3, 32 0 0, 0 0 0 running, 0 0 0 mailbox 12 0, 0 0 0 mailbox 12 1, 0 0 0 semaphore 0 0",
         );
         answers("why, why 1 2, why 01, Why 1, why 65536", "bad, bad, bad, bad, bad");
+    }
+
+    #[test]
+    fn names_go_stale() {
+        // A number that is in use again has another name, and the earlier one stops nobody.
+        answers(
+            "create 1, create 1, stop 258, create 1, stop 258, why 258, why 514, stop 514, stop 514, why 514, why 258",
+            "0 257 1, 0 258 1, 0 0 1, 0 514 1, 1 0 1, 1 0 1, 0 0 1 ready 1, 0 0 1, 1 0 1, 0 0 1 unused, 1 0 1",
+        );
+        // A number alone is a name only before it is born.
+        answers(
+            "why 1, stop 1, create 1, why 1, stop 1, end, why 1, stop 1, why 257",
+            "0 0 0 unused, 1 0 0, 0 257 1, 1 0 1, 1 0 1, 0 0 0, 1 0 0, 1 0 0, 0 0 0 unused",
+        );
+        // 0 has no birth count, and who ended has been born.
+        answers("why 256, stop 256, create 1, end, create 1, why 256, why 0", "1 0 0, 1 0 0, 0 257 1, 0 0 0, 0 513 1, 1 0 1, 0 0 1 behind 1");
+        // Another birth count is refused in the same place as another number.
+        answers("create 1, stop 289, stop 513, stop 65535, stop 258", "0 257 1, 1 0 1, 1 0 1, 1 0 1, 1 0 1");
+    }
+
+    #[test]
+    fn names_return() {
+        let mut script = String::new();
+        let mut expected = String::new();
+        for birth in 1..=257 {
+            let name = 1 + 256 * (birth % 256);
+            script += &format!("create 1\nwhy {name}\nstop {name}\nstop {name}\nwhy {name}\n");
+            expected += &format!("0 {name} 1\n0 0 1 running\n0 0 0\n1 0 0\n0 0 0 unused\n");
+        }
+        assert!(expected.contains("\n0 65281 1\n") && expected.contains("\n0 1 1\n"));
+        check_at_3(&script, &expected);
+        // Who kept the name of the first process 1 stops the one that was born 256 births later.
+        check_at_3(&("create 1\nend\n".repeat(256) + "create 1\nstop 513\nstop 1\nstop 257\n"), &{
+            let names = (1..=256).map(|birth| format!("0 {} 1\n0 0 0\n", 1 + 256 * (birth % 256)));
+            names.collect::<String>() + "0 257 1\n1 0 1\n1 0 1\n0 0 0\n"
+        });
     }
 
     #[test]
@@ -307,8 +343,8 @@ mod tests {
         for line in "slice 3, create 1, create 3, tick, send 4 aa, receive 4, create 3, wait 2".split(", ") {
             desk.answer(line.as_bytes());
             let before = desk.kernel.clone();
-            for process in 0..40 {
-                desk.answer(format!("why {process}").as_bytes());
+            for name in (0..40).chain(250..300).chain([513, 65_535]) {
+                desk.answer(format!("why {name}").as_bytes());
                 assert_eq!(desk.kernel, before);
             }
         }
@@ -321,7 +357,7 @@ mod tests {
         let mut kernel = Kernel::fresh_slice(3).unwrap();
         kernel.create(2);
         kernel.receive(3);
-        assert_eq!(state_after(b"slice 3\ncreate 2\nwhy 1\nreceive 3\nfrob\n"), kernel);
+        assert_eq!(state_after(b"slice 3\ncreate 2\nwhy 257\nreceive 3\nfrob\n"), kernel);
         assert_eq!(state_after(b"slice 3\ncreate 2\nreceive 3"), kernel);
     }
 
@@ -333,7 +369,7 @@ mod tests {
         check("tick", "0 0 0\n");
         check("tick\n", "0 0 0\n");
         check("tick\n\n", "0 0 0\nbad\n");
-        check("create 1\ntick", "0 1 1\n0 0 1\n");
+        check("create 1\ntick", "0 257 1\n0 0 1\n");
         check("tick\r\ntick\n", "bad\n0 0 0\n");
         check(" ", "bad\n");
         assert_eq!(replayed(b"\0\n\xff\xfe\ntick\n"), b"bad\nbad\n0 0 0\n");
@@ -356,7 +392,7 @@ mod tests {
         for size in [1, 2, 3, 7, 1_299, 1_300, 1_301, 1_302] {
             let mut output = Vec::new();
             replay(&mut io::BufReader::with_capacity(size, script.as_bytes()), &mut output).unwrap();
-            assert_eq!(output, b"0 0 0\n0 1 1\nbad\nbad\n0 2 1\n0 0 1\nbad\n8 0 1\n", "pieces of {size}");
+            assert_eq!(output, b"0 0 0\n0 257 1\nbad\nbad\n0 258 1\n0 0 1\nbad\n8 0 1\n", "pieces of {size}");
         }
     }
 }

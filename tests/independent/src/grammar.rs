@@ -16,7 +16,7 @@ pub fn parse(line: &[u8]) -> Option<Call> {
     let words: Vec<&[u8]> = line.split(|&byte| byte == b' ').collect();
     Some(match words.as_slice() {
         [b"create", class] => Call::Create(number(class)?),
-        [b"stop", process] => Call::Stop(number(process)?),
+        [b"stop", name] => Call::Stop(number(name)?),
         [b"end"] => Call::End,
         [b"yield"] => Call::Yield,
         [b"class", class] => Call::Class(number(class)?),
@@ -27,7 +27,7 @@ pub fn parse(line: &[u8]) -> Option<Call> {
         [b"release"] => Call::Release,
         [b"signal", semaphore] => Call::Signal(number(semaphore)?),
         [b"wait", semaphore] => Call::Wait(number(semaphore)?),
-        [b"why", process] => Call::Why(number(process)?),
+        [b"why", name] => Call::Why(number(name)?),
         _ => return None,
     })
 }
@@ -78,7 +78,7 @@ pub fn hex(bytes: &[u8]) -> String {
 pub fn line_of(call: &Call) -> String {
     match call {
         Call::Create(class) => format!("create {class}"),
-        Call::Stop(process) => format!("stop {process}"),
+        Call::Stop(name) => format!("stop {name}"),
         Call::End => "end".to_string(),
         Call::Yield => "yield".to_string(),
         Call::Class(class) => format!("class {class}"),
@@ -89,7 +89,7 @@ pub fn line_of(call: &Call) -> String {
         Call::Release => "release".to_string(),
         Call::Signal(semaphore) => format!("signal {semaphore}"),
         Call::Wait(semaphore) => format!("wait {semaphore}"),
-        Call::Why(process) => format!("why {process}"),
+        Call::Why(name) => format!("why {name}"),
     }
 }
 

@@ -4,7 +4,7 @@ use crate::kernel::*;
 use crate::sound::is_sound;
 use std::collections::VecDeque;
 
-pub const IMAGE_BYTES: usize = 444;
+pub const IMAGE_BYTES: usize = 476;
 
 // Where each field begins.
 const RUNNING: usize = 0;
@@ -21,7 +21,8 @@ const FULL_BITS: usize = 339;
 const LENGTH: usize = 343;
 const FREE_BITS: usize = 407;
 const COUNT: usize = 411;
-pub const SLICE: usize = 443;
+pub const BIRTH_COUNT: usize = 443;
+pub const SLICE: usize = 475;
 
 /// What the byte at this place belongs to.
 pub fn field_of(place: usize) -> &'static str {
@@ -37,6 +38,7 @@ pub fn field_of(place: usize) -> &'static str {
         (LENGTH, "length"),
         (FREE_BITS, "bits"),
         (COUNT, "count"),
+        (BIRTH_COUNT, "births"),
         (SLICE, "slice"),
     ];
     fields.iter().rfind(|(start, _)| *start <= place).map_or("", |(_, name)| name)
@@ -78,6 +80,7 @@ pub fn image(kernel: &Kernel) -> [u8; IMAGE_BYTES] {
     for (number, semaphore) in kernel.semaphores.iter().enumerate() {
         write_two(&mut area, COUNT + 2 * number, semaphore.count as usize);
     }
+    area[BIRTH_COUNT..SLICE].copy_from_slice(&kernel.births);
     area[SLICE] = kernel.slice as u8;
     area
 }
@@ -145,6 +148,7 @@ fn read(area: &[u8; IMAGE_BYTES]) -> Option<Kernel> {
 
     let mut kernel = Kernel { slice: u32::from(area[SLICE]), ..Kernel::fresh() };
     kernel.running = usize::from(area[RUNNING]);
+    kernel.births.copy_from_slice(&area[BIRTH_COUNT..SLICE]);
     for number in (1..PROCESSES).filter(|&number| !bit(UNUSED_BITS, number)) {
         let hand = if bit(FULL_BITS, number) { Some(message(usize::from(area[HAND + number]))?) } else { None };
         let class = usize::from(area[CLASS + number]);

@@ -1,5 +1,5 @@
-//! The kernel of document 01 as places and lists in order, its slice a setting as in document 02. Written to be obvious, not
-//! fast.
+//! The kernel of document 01 as places and lists in order, its slice a setting and its processes named as in document 02.
+//! Written to be obvious, not fast.
 //!
 //! A kernel here is always sound: it starts fresh and only its calls change it, or it comes from `image::decide`.
 //! So codes 14 and 15, which are for states and stores from outside, are not given here but in `lent`.
@@ -21,6 +21,8 @@ pub const COUNT_LIMIT: u32 = 65_535;
 /// Ticks of a whole slice where none is named.
 pub const USUAL_SLICE: u32 = 5;
 pub const LONGEST_SLICE: u32 = 255;
+/// A name is a number plus this many times its birth count, which is always less.
+pub const BIRTHS: u32 = 256;
 
 /// A message and the buffer that it lies in.
 #[derive(Clone, Debug, PartialEq, Eq)]
@@ -59,6 +61,8 @@ pub struct Kernel {
     pub ready: [VecDeque<usize>; CLASSES],
     pub mailboxes: [Mailbox; MAILBOXES],
     pub semaphores: [Semaphore; SEMAPHORES],
+    /// The birth count of each number, raised whenever it becomes a process; it stays when the number is unused again.
+    pub births: [u8; PROCESSES],
     /// Ticks of a whole slice, fixed at the fresh start.
     pub slice: u32,
 }
@@ -72,6 +76,7 @@ impl Kernel {
             ready: Default::default(),
             mailboxes: Default::default(),
             semaphores: Default::default(),
+            births: [0; PROCESSES],
             slice: USUAL_SLICE,
         }
     }
@@ -91,17 +96,19 @@ impl Kernel {
             return self.answer(NO_UNUSED_PROCESS, 0);
         };
         self.processes[new] = Some(Process { class: class as usize, ticks: self.slice, hand: None });
+        self.births[new] = if self.births[new] == 255 { 0 } else { self.births[new] + 1 };
         self.make_ready(new);
-        self.answer(DONE, new)
+        self.answer(DONE, self.name(new) as usize)
     }
 
-    pub fn stop(&mut self, process: u32) -> Answer {
-        let stopped = process as usize;
-        if stopped == 0 || stopped >= PROCESSES || self.processes[stopped].is_none() {
-            return self.answer(NO_SUCH_PROCESS, 0);
+    pub fn stop(&mut self, name: u32) -> Answer {
+        match self.named(name) {
+            Some(stopped) if self.processes[stopped].is_some() => {
+                self.remove(stopped);
+                self.answer(DONE, 0)
+            }
+            _ => self.answer(NO_SUCH_PROCESS, 0),
         }
-        self.remove(stopped);
-        self.answer(DONE, 0)
     }
 
     pub fn end(&mut self) -> Answer {
@@ -299,6 +306,16 @@ impl Kernel {
 
     pub(crate) fn answer(&self, code: u32, number: usize) -> Answer {
         Answer { code, number: number as u32, running: self.running as u32 }
+    }
+
+    /// The name of a number 0 to 31, in use or not.
+    pub fn name(&self, number: usize) -> u32 {
+        number as u32 + BIRTHS * u32::from(self.births[number])
+    }
+
+    /// The number that has this name now; None if none has.
+    pub(crate) fn named(&self, name: u32) -> Option<usize> {
+        (0..PROCESSES).find(|&number| self.name(number) == name)
     }
 
     /// A process that is in use.

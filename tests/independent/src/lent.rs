@@ -99,7 +99,7 @@ mod tests {
     #[test]
     fn states_refused() {
         let mut store = vec![7; STORE_BYTES];
-        for length in [0, 1, 442, 443, 445] {
+        for length in [0, 1, 444, 474, 475, 477] {
             let mut area = vec![5; length];
             assert_eq!(fresh(&mut area), STATE_REFUSED);
             // 14 comes before 16.
@@ -124,7 +124,7 @@ mod tests {
         let mut area = vec![0; IMAGE_BYTES];
         fresh(&mut area);
         let usual = area.clone();
-        assert_eq!(usual[443], 5);
+        assert_eq!(usual[475], 5);
         // Whatever the area holds, also where 1 runs in it.
         call(&mut area, &mut [], &Call::Create(2));
         for content in [area, vec![0; IMAGE_BYTES], vec![255; IMAGE_BYTES]] {
@@ -136,8 +136,8 @@ mod tests {
             for slice in 1..=255 {
                 let mut area = content.clone();
                 assert_eq!(fresh_slice(&mut area, slice), FRESH_WRITTEN);
-                assert_eq!(area[..443], usual[..443]);
-                assert_eq!(u32::from(area[443]), slice);
+                assert_eq!(area[..475], usual[..475]);
+                assert_eq!(u32::from(area[475]), slice);
             }
         }
     }
@@ -149,15 +149,43 @@ mod tests {
         // 14 comes before 1, and by itself.
         assert_eq!(call(&mut area, &mut [], &Call::Why(32)), refused(NOT_SOUND));
         assert_eq!(call(&mut area, &mut [], &Call::Why(31)), refused(NOT_SOUND));
-        assert_eq!(call(&mut area[..443], &mut [], &Call::Why(32)), refused(NOT_SOUND));
+        assert_eq!(call(&mut area[..475], &mut [], &Call::Why(32)), refused(NOT_SOUND));
         fresh(&mut area);
         assert_eq!(call(&mut area, &mut [], &Call::Why(32)), refused(NO_SUCH_PROCESS));
         call(&mut area, &mut [], &Call::Create(2));
         let before = area.clone();
         let told = |reason: Reason| (Answer { code: DONE, number: 0, running: 1 }, Some(Told::Reason(reason)));
         assert_eq!(call(&mut area, &mut [], &Call::Why(0)), told(Reason::Behind(1)));
-        assert_eq!(call(&mut area, &mut [], &Call::Why(1)), told(Reason::Running));
+        assert_eq!(call(&mut area, &mut [], &Call::Why(257)), told(Reason::Running));
         assert_eq!(area, before);
+    }
+
+    #[test]
+    fn names() {
+        let mut area = vec![0; IMAGE_BYTES];
+        fresh(&mut area);
+        let answer = |code: u32, number: u32, running: u32| (Answer { code, number, running }, None);
+        assert_eq!(call(&mut area, &mut [], &Call::Create(2)), answer(DONE, 257, 1));
+        let before = area.clone();
+        // Names that another width would take for that of process 1.
+        for name in [1, 513, 65_793, 131_329, 0x8000_0101, 0xffff_0101] {
+            assert_eq!(call(&mut area, &mut [], &Call::Stop(name)), answer(NO_SUCH_PROCESS, 0, 1));
+            assert_eq!(call(&mut area, &mut [], &Call::Why(name)), answer(NO_SUCH_PROCESS, 0, 1));
+        }
+        assert_eq!(area, before);
+        assert_eq!(call(&mut area, &mut [], &Call::Stop(257)), answer(DONE, 0, 0));
+        assert_eq!(area[443..476], [&[0, 1][..], &[0; 30], &[5]].concat());
+        assert_eq!(call(&mut area, &mut [], &Call::Create(2)), answer(DONE, 513, 1));
+        assert_eq!(area[444], 2);
+        // 14 comes before 1, and 0 has no birth count.
+        area[443] = 1;
+        for name in [0, 256, 257, 513] {
+            assert_eq!(call(&mut area, &mut [], &Call::Why(name)), (STATE_REFUSED, None));
+            assert_eq!(call(&mut area, &mut [], &Call::Stop(name)), (STATE_REFUSED, None));
+        }
+        assert_eq!(listing(&area, &mut [Row::default(); 32]), STATE_REFUSED);
+        fresh(&mut area);
+        assert_eq!(area[443..475], [0; 32]);
     }
 
     #[test]

@@ -14,6 +14,7 @@ pub mod junk;
 pub mod kernel;
 pub mod lent;
 pub mod listing;
+pub mod names;
 pub mod page;
 pub mod random;
 pub mod scripts;

@@ -5,20 +5,23 @@ use crate::listing::*;
 
 /// The page of a state, every line with its newline.
 pub fn page(kernel: &Kernel) -> String {
-    let mut page = line("Process", "Stands", "Class", "Ticks left", "In hand");
+    let mut page = line("Process", "Name", "Stands", "Class", "Ticks left", "In hand");
     let mut unused = 0;
     for number in 0..PROCESSES {
         let row = kernel.row(number);
         match place_in_words(&row) {
             None => unused += 1,
-            Some(place) => page += &line(&number.to_string(), &place, &row.class.to_string(), &row.ticks.to_string(), &hand_in_words(&row)),
+            Some(place) => {
+                let name = kernel.name(number).to_string();
+                page += &line(&number.to_string(), &name, &place, &row.class.to_string(), &row.ticks.to_string(), &hand_in_words(&row));
+            }
         }
     }
     page + &unused_in_words(unused) + "\n"
 }
 
-fn line(process: &str, stands: &str, class: &str, ticks: &str, hand: &str) -> String {
-    format!("{process:<9}{stands:<30}{class:<7}{ticks:<12}{hand}\n")
+fn line(process: &str, name: &str, stands: &str, class: &str, ticks: &str, hand: &str) -> String {
+    format!("{process:<9}{name:<7}{stands:<30}{class:<7}{ticks:<12}{hand}\n")
 }
 
 /// None for an unused process.
@@ -61,8 +64,8 @@ mod tests {
     #[test]
     fn fresh() {
         let lines = [
-            "Process  Stands                        Class  Ticks left  In hand",
-            "0        runs                          0      0           nothing",
+            "Process  Name   Stands                        Class  Ticks left  In hand",
+            "0        0      runs                          0      0           nothing",
             "31 processes are unused.",
             "",
         ];
@@ -72,15 +75,15 @@ mod tests {
     #[test]
     fn every_place_and_hand() {
         let lines = [
-            "Process  Stands                        Class  Ticks left  In hand",
-            "0        stands by                     0      0           nothing",
-            "1        at mailbox 9, first           4      3           nothing",
-            "2        at semaphore 15, first        3      3           a message of 1 byte",
-            "3        at mailbox 9, 1 ahead         4      3           nothing",
-            "4        runs                          2      2           a message of 0 bytes",
-            "5        ready in class 1, first       1      3           nothing",
-            "6        ready in class 1, 1 ahead     1      3           nothing",
-            "7        ready in class 0, first       0      3           nothing",
+            "Process  Name   Stands                        Class  Ticks left  In hand",
+            "0        0      stands by                     0      0           nothing",
+            "1        257    at mailbox 9, first           4      3           nothing",
+            "2        258    at semaphore 15, first        3      3           a message of 1 byte",
+            "3        259    at mailbox 9, 1 ahead         4      3           nothing",
+            "4        260    runs                          2      2           a message of 0 bytes",
+            "5        261    ready in class 1, first       1      3           nothing",
+            "6        262    ready in class 1, 1 ahead     1      3           nothing",
+            "7        263    ready in class 0, first       0      3           nothing",
             "24 processes are unused.",
             "",
         ];
@@ -96,11 +99,30 @@ mod tests {
             kernel.wait(15); // 1 waits, 2 runs
             kernel.tick();
             let lines = [
-                "Process  Stands                        Class  Ticks left  In hand".to_string(),
-                "0        stands by                     0      0           nothing".to_string(),
-                format!("1        at semaphore 15, first        2      {slice:<3}         nothing"),
-                format!("2        runs                          2      {ticks}         nothing"),
+                "Process  Name   Stands                        Class  Ticks left  In hand".to_string(),
+                "0        0      stands by                     0      0           nothing".to_string(),
+                format!("1        257    at semaphore 15, first        2      {slice:<3}         nothing"),
+                format!("2        258    runs                          2      {ticks}         nothing"),
                 "29 processes are unused.\n".to_string(),
+            ];
+            assert_eq!(page(&kernel), lines.join("\n"));
+        }
+    }
+
+    /// A name has up to five digits; a number alone is one after 256 births.
+    #[test]
+    fn names_of_later_births() {
+        let mut kernel = Kernel::fresh();
+        for (births, name) in [(2, "513  "), (4, "1025 "), (255, "65281"), (256, "1    "), (257, "257  ")] {
+            while kernel.births[1] != (births % 256) as u8 {
+                kernel.end();
+                kernel.create(2);
+            }
+            let lines = [
+                "Process  Name   Stands                        Class  Ticks left  In hand".to_string(),
+                "0        0      stands by                     0      0           nothing".to_string(),
+                format!("1        {name}  runs                          2      5           nothing"),
+                "30 processes are unused.\n".to_string(),
             ];
             assert_eq!(page(&kernel), lines.join("\n"));
         }

@@ -2,13 +2,15 @@
 //!
 //! Calls drawn blindly rarely fill a mailbox or gather waiters. So the kernel runs alongside, and each line is drawn
 //! from wishes that look at its state, such as "receive where there is a message". The seed chooses the style: its
-//! phases, each a list of wishes with weights, take turns. It also chooses how the script begins, where a slice is named.
+//! phases, each a list of wishes with weights, take turns. It also chooses how the script begins, where a slice is named, and
+//! in some a number is born so often that its names return.
 
 use crate::call::Call;
 use crate::desk::Desk;
 use crate::grammar::{line_of, LINE_BYTES};
 use crate::junk::{giant_line, junk_line, junk_question, near_slice};
 use crate::kernel::*;
+use crate::names::Born;
 use crate::random::Random;
 use std::io::{self, Write};
 
@@ -22,7 +24,7 @@ enum Wish {
     StopReady,
     StopWaiter,
     StopHolder,
-    StopAny,
+    StopAnyName,
     End,
     Yield,
     ClassAny,
@@ -67,7 +69,7 @@ const STYLES: [Style; 8] = [
         name: "mixed",
         junk: 40,
         phases: &[&[
-            (10, Create), (3, StopLive), (1, StopAny), (2, End), (5, Yield), (5, ClassAny), (15, Tick), (12, SendAny), (6, ReceiveAny),
+            (10, Create), (3, StopLive), (3, StopAnyName), (2, End), (5, Yield), (5, ClassAny), (15, Tick), (12, SendAny), (6, ReceiveAny),
             (8, ReceiveFilled), (5, ReadAny), (5, ReadNear), (6, Release), (6, SignalAny), (5, SignalWaited), (5, WaitAny),
             (3, WaitCounted), (2, OutOfRange),
         ]],
@@ -78,8 +80,8 @@ const STYLES: [Style; 8] = [
         phases: &[
             &[(50, Create), (5, CreateAbove), (10, Tick), (5, Yield), (5, ClassAny), (3, WaitAny), (3, ReceiveAny), (1, StopLive), (1, OutOfRange)],
             &[
-                (20, Create), (6, StopLive), (2, StopWaiter), (2, StopReady), (1, End), (10, Tick), (5, Yield), (3, ClassAny), (6, WaitAny),
-                (6, ReceiveAny), (8, SignalWaited), (8, SendToWaiter), (3, SendAny), (3, Release), (2, OutOfRange),
+                (20, Create), (6, StopLive), (2, StopWaiter), (2, StopReady), (2, StopAnyName), (1, End), (10, Tick), (5, Yield), (3, ClassAny),
+                (6, WaitAny), (6, ReceiveAny), (8, SignalWaited), (8, SendToWaiter), (3, SendAny), (3, Release), (2, OutOfRange),
             ],
         ],
     },
@@ -105,8 +107,8 @@ const STYLES: [Style; 8] = [
             ],
             &[(12, SendToWaiter), (12, SignalWaited), (4, Tick), (3, Release), (3, ReadNear), (2, Yield), (2, Create)],
             &[
-                (10, StopWaiter), (8, SendToWaiter), (8, SignalWaited), (6, ReceiveWaited), (6, WaitWaited), (6, Create), (4, Tick),
-                (3, Release), (2, ClassAny), (2, SendAny), (2, SignalAny), (1, OutOfRange),
+                (10, StopWaiter), (2, StopAnyName), (8, SendToWaiter), (8, SignalWaited), (6, ReceiveWaited), (6, WaitWaited), (6, Create),
+                (4, Tick), (3, Release), (2, ClassAny), (2, SendAny), (2, SignalAny), (1, OutOfRange),
             ],
         ],
     },
@@ -119,7 +121,7 @@ const STYLES: [Style; 8] = [
                 (5, Create), (30, Tick), (10, WaitZero), (14, SignalWaited), (4, ReceiveEmpty), (6, SendToWaiter), (4, Yield), (6, ClassBelow),
                 (3, ClassAny), (3, Release), (2, StopLive),
             ],
-            &[(6, CreateAbove), (25, Tick), (12, End), (4, StopReady), (4, ClassAny), (3, SignalWaited), (1, OutOfRange)],
+            &[(6, CreateAbove), (25, Tick), (12, End), (4, StopReady), (3, StopAnyName), (4, ClassAny), (3, SignalWaited), (1, OutOfRange)],
         ],
     },
     Style {
@@ -151,8 +153,8 @@ const STYLES: [Style; 8] = [
         name: "junk",
         junk: 2,
         phases: &[&[
-            (8, Create), (2, StopLive), (1, End), (3, Yield), (3, ClassAny), (8, Tick), (8, SendSmall), (6, ReceiveFilled), (2, ReceiveAny),
-            (5, ReadNear), (4, Release), (4, SignalAny), (3, SignalWaited), (3, WaitAny), (2, OutOfRange),
+            (8, Create), (2, StopLive), (1, StopAnyName), (1, End), (3, Yield), (3, ClassAny), (8, Tick), (8, SendSmall), (6, ReceiveFilled),
+            (2, ReceiveAny), (5, ReadNear), (4, Release), (4, SignalAny), (3, SignalWaited), (3, WaitAny), (2, OutOfRange),
         ]],
     },
 ];
@@ -161,6 +163,11 @@ const STYLES: [Style; 8] = [
 const FLOODED: u64 = 8;
 /// One in so many scripts of the junk style has a giant line.
 const WITH_GIANT: u64 = 3;
+/// One in so many scripts of the preemption style begins with a number whose names return, on top of its lines.
+const REBORN: u64 = 2;
+/// It is born so often, and of these the last ones are looked at closely.
+const REBIRTHS: u32 = BIRTHS + 2;
+const LAST_REBIRTHS: u32 = 4;
 
 /// How many ways to begin there are. The seed chooses one: among 16 seeds in a row, from a multiple of 8 on, each comes
 /// once, and a style meets all of them in 16 turns.
@@ -191,8 +198,15 @@ fn beginning(seed: u64) -> Vec<Vec<u8>> {
     }
 }
 
+/// The style of a seed, and how many seeds before it have the same.
+fn style_and_turn(seed: u64) -> (&'static Style, u64) {
+    let styles = STYLES.len() as u64;
+    (&STYLES[(seed % styles) as usize], seed / styles)
+}
+
 /// The beginning of a seed's script, and two processes that take turns until one has used up the slice that holds then:
 /// drawn lines do that rarely, or never where it is long. Nothing of that where no line stands at the beginning.
+/// Then, in some, the births of a number.
 fn opening(seed: u64) -> Vec<Vec<u8>> {
     let mut lines = beginning(seed);
     let mut desk = Desk::fresh();
@@ -204,7 +218,36 @@ fn opening(seed: u64) -> Vec<Vec<u8>> {
     if !lines.is_empty() {
         lines.extend(calls.map(|call| line_of(&call).into_bytes()));
     }
+    let (style, turn) = style_and_turn(seed);
+    if style.name == "preemption" && turn % REBORN == 0 {
+        let in_use = if lines.is_empty() { 0 } else { 2 };
+        lines.extend(births(in_use + 1).iter().map(|call| line_of(call).into_bytes()));
+    }
     lines
+}
+
+/// The lowest unused number is born and stopped until its names return. The last times it is asked about, and stopped, by
+/// the names of the two births before, of the next one, and by its own last; so it is again when it is unused. In the end it
+/// is a process.
+fn births(number: u32) -> Vec<Call> {
+    let mut calls = vec![];
+    for birth in 1..=REBIRTHS {
+        let name = |birth: u32| number + BIRTHS * (birth % BIRTHS);
+        let names = [birth + BIRTHS - 2, birth - 1, birth + 1, birth].map(name);
+        calls.push(Call::Create(0));
+        if birth + LAST_REBIRTHS > REBIRTHS {
+            calls.extend(names.map(Call::Why));
+            calls.extend(names[..3].iter().copied().map(Call::Stop));
+        }
+        if birth < REBIRTHS {
+            calls.push(Call::Stop(name(birth)));
+        }
+        if birth + LAST_REBIRTHS > REBIRTHS && birth < REBIRTHS {
+            calls.extend(names.map(Call::Why));
+            calls.extend(names.map(Call::Stop));
+        }
+    }
+    calls
 }
 
 fn other_first_line(number: u64) -> Vec<u8> {
@@ -221,6 +264,7 @@ fn other_first_line(number: u64) -> Vec<u8> {
 pub struct Script {
     random: Random,
     desk: Desk,
+    born: Born,
     opening: std::vec::IntoIter<Vec<u8>>,
     style: &'static Style,
     phase: Phase,
@@ -237,8 +281,7 @@ pub struct Script {
 
 impl Script {
     pub fn new(seed: u64, lines: u64) -> Script {
-        let style = &STYLES[(seed % STYLES.len() as u64) as usize];
-        let turn = seed / STYLES.len() as u64;
+        let (style, turn) = style_and_turn(seed);
         let mut random = Random::new(seed);
         let giant = if style.name == "junk" && turn % WITH_GIANT == 0 && lines > 0 { 1 + random.next() % lines } else { 0 };
         Script {
@@ -246,6 +289,7 @@ impl Script {
             open_end: random.one_in(4),
             random,
             desk: Desk::fresh(),
+            born: Born::default(),
             opening: opening(seed).into_iter(),
             style,
             phase: style.phases[0],
@@ -265,6 +309,11 @@ impl Script {
         self.desk.kernel()
     }
 
+    /// How often each number was born in the lines given so far.
+    pub fn born(&self) -> &Born {
+        &self.born
+    }
+
     /// The next line, without newline.
     pub fn next_line(&mut self) -> Option<Vec<u8>> {
         let line = match self.opening.next() {
@@ -272,6 +321,7 @@ impl Script {
             None => self.line_after_the_opening()?,
         };
         self.desk.answer(&line);
+        self.born.follow(self.desk.kernel());
         Some(line)
     }
 
@@ -320,7 +370,7 @@ impl Script {
             StopReady => Call::Stop(random.pick(&processes(kernel, |number| kernel.ready.iter().any(|queue| queue.contains(&number))))?),
             StopWaiter => Call::Stop(random.pick(&processes(kernel, |number| waits(kernel, number)))?),
             StopHolder => Call::Stop(random.pick(&processes(kernel, |number| kernel.hand_of(number).is_some()))?),
-            StopAny => Call::Stop(random.below(40) as u32),
+            StopAnyName => Call::Stop(self.born.draw(kernel, random)),
             End => Call::End,
             Yield => Call::Yield,
             ClassAny => Call::Class(random.below(CLASSES) as u32),
@@ -364,7 +414,7 @@ impl Script {
                 Call::Wait(random.pick(&semaphores(kernel, |semaphore| semaphore.waiters.len() >= least))?)
             }
             WaitFavourite => Call::Wait(self.favourite),
-            OutOfRange => out_of_range(random),
+            OutOfRange => out_of_range(random, kernel),
         })
     }
 
@@ -373,7 +423,7 @@ impl Script {
         let random = &mut self.random;
         match random.below(12) {
             0 | 1 => Call::Create(random.below(CLASSES) as u32),
-            2 => Call::Stop(random.below(PROCESSES) as u32),
+            2 => Call::Stop(self.born.draw(self.desk.kernel(), random)),
             3 => Call::Yield,
             4 => Call::Class(random.below(CLASSES) as u32),
             5 => Call::Tick,
@@ -410,20 +460,21 @@ impl Questioned {
     /// The next line, without newline.
     pub fn next_line(&mut self) -> Option<Vec<u8>> {
         if self.script.desk.has_begun() && self.random.one_in(QUESTIONS) {
-            return Some(question(&mut self.random, self.script.kernel()));
+            return Some(question(&mut self.random, &self.script));
         }
         self.script.next_line()
     }
 }
 
-/// Mostly about a process in use; now and then about any, 0 too, or about one that there is not.
-fn question(random: &mut Random, kernel: &Kernel) -> Vec<u8> {
-    let process = match random.below(10) {
-        0 => random.between(PROCESSES, 65_535) as u32,
-        1..=4 => random.below(PROCESSES + 2) as u32,
+/// Mostly about a process in use; now and then about any number, 0 too, or by any name.
+fn question(random: &mut Random, script: &Script) -> Vec<u8> {
+    let kernel = script.kernel();
+    let name = match random.below(10) {
+        0..=2 => script.born.draw(kernel, random),
+        3..=4 => kernel.name(random.below(PROCESSES)),
         _ => random.pick(&processes(kernel, |_| true)).unwrap_or(0),
     };
-    let line = line_of(&Call::Why(process));
+    let line = line_of(&Call::Why(name));
     if random.one_in(JUNK_QUESTIONS) {
         junk_question(random, &line)
     } else {
@@ -453,9 +504,10 @@ pub fn script(seed: u64, lines: u64) -> Vec<u8> {
     bytes
 }
 
+/// The names of processes in use.
 fn processes(kernel: &Kernel, wanted: impl Fn(usize) -> bool) -> Vec<u32> {
     let numbers = (1..PROCESSES).filter(|&number| kernel.processes[number].is_some() && wanted(number));
-    numbers.map(|number| number as u32).collect()
+    numbers.map(|number| kernel.name(number)).collect()
 }
 
 fn waits(kernel: &Kernel, process: usize) -> bool {
@@ -498,7 +550,7 @@ fn short_message(random: &mut Random) -> Vec<u8> {
     random.bytes(length)
 }
 
-fn out_of_range(random: &mut Random) -> Call {
+fn out_of_range(random: &mut Random, kernel: &Kernel) -> Call {
     let over = |random: &mut Random, limit: usize| {
         let number = match random.below(3) {
             0 => limit,
@@ -510,8 +562,11 @@ fn out_of_range(random: &mut Random) -> Call {
     match random.below(7) {
         0 => Call::Create(over(random, CLASSES)),
         1 => Call::Class(over(random, CLASSES)),
-        2 => Call::Stop(over(random, PROCESSES)),
-        3 => Call::Stop(0),
+        2 => {
+            let number = random.between(PROCESSES, BIRTHS as usize - 1) as u32;
+            Call::Stop(number + BIRTHS * u32::from(kernel.births[random.below(PROCESSES)]))
+        }
+        3 => Call::Stop(BIRTHS * u32::from(kernel.births[random.below(PROCESSES)])),
         4 => Call::Send(over(random, MAILBOXES), message(random)),
         5 => Call::Receive(over(random, MAILBOXES)),
         _ if random.one_in(2) => Call::Signal(over(random, SEMAPHORES)),

@@ -1,11 +1,17 @@
-//! Which states are sound: "Where everything stands" of document 01, sentence by sentence, with the slice of document 02.
+//! Which states are sound: "Where everything stands" of document 01, sentence by sentence, with the slice and the birth counts
+//! of document 02.
 
 use crate::kernel::*;
 
 /// Whether a kernel value, built from anything whatever, is a sound state.
 /// What the type cannot say, such as a class at process 0, isn't asked here.
 pub fn is_sound(kernel: &Kernel) -> bool {
-    places_are_right(kernel) && the_right_one_runs(kernel) && numbers_are_right(kernel) && buffers_are_right(kernel) && queues_are_right(kernel)
+    places_are_right(kernel)
+        && the_right_one_runs(kernel)
+        && numbers_are_right(kernel)
+        && buffers_are_right(kernel)
+        && queues_are_right(kernel)
+        && the_name_of_0_is_right(kernel)
 }
 
 /// Each process 1 to 31 is in exactly one place: unused, running, ready in the queue of its own class, waiting at one
@@ -63,6 +69,11 @@ fn queues_are_right(kernel: &Kernel) -> bool {
     };
     kernel.mailboxes.iter().all(mailbox_is_right)
         && kernel.semaphores.iter().all(|semaphore| semaphore.count == 0 || semaphore.waiters.is_empty())
+}
+
+/// Process 0's name is 0. The birth counts of all others may be anything.
+fn the_name_of_0_is_right(kernel: &Kernel) -> bool {
+    kernel.name(0) == 0
 }
 
 fn class_of(kernel: &Kernel, process: usize) -> Option<usize> {

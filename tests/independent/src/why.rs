@@ -52,12 +52,13 @@ impl fmt::Display for Reason {
 }
 
 impl Kernel {
-    /// Why a process is where it is; no reason where the question is refused. 0 may be asked about, and unused ones.
-    pub fn why(&self, process: u32) -> (Answer, Option<Reason>) {
-        if process as usize >= PROCESSES {
+    /// Why the process of this name is where it is; no reason where the question is refused. 0 may be asked about, and unused
+    /// numbers by the name that they had last.
+    pub fn why(&self, name: u32) -> (Answer, Option<Reason>) {
+        let Some(process) = self.named(name) else {
             return (self.answer(NO_SUCH_PROCESS, 0), None);
-        }
-        match self.reasons(process as usize)[..] {
+        };
+        match self.reasons(process)[..] {
             [reason] => (self.answer(DONE, 0), Some(reason)),
             _ => unreachable!("a process of a sound state has exactly one reason"),
         }
@@ -107,12 +108,21 @@ mod tests {
     use crate::listing::{AT_MAILBOX, AT_SEMAPHORE, READY, RUNNING, STANDING_BY, UNUSED};
     use crate::scripts::Script;
 
-    /// The reasons of some processes, as the desk writes them.
-    fn check(kernel: &Kernel, expected: &[(u32, &str)]) {
-        for &(process, words) in expected {
-            let (answer, reason) = kernel.why(process);
-            assert_eq!(answer, Answer { code: DONE, number: 0, running: kernel.running as u32 });
-            assert_eq!(reason.unwrap().to_string(), words, "process {process}");
+    fn told(kernel: &Kernel, name: u32, words: &str) {
+        let (answer, reason) = kernel.why(name);
+        assert_eq!(answer, Answer { code: DONE, number: 0, running: kernel.running as u32 }, "name {name}");
+        assert_eq!(reason.unwrap().to_string(), words, "name {name}");
+    }
+
+    fn refused(kernel: &Kernel, name: u32) {
+        let answer = Answer { code: NO_SUCH_PROCESS, number: 0, running: kernel.running as u32 };
+        assert_eq!(kernel.why(name), (answer, None), "name {name}");
+    }
+
+    /// The reasons of some numbers, each asked about by its name, as the desk writes them.
+    fn check(kernel: &Kernel, expected: &[(usize, &str)]) {
+        for &(number, words) in expected {
+            told(kernel, kernel.name(number), words);
         }
     }
 
@@ -145,11 +155,34 @@ mod tests {
     #[test]
     fn no_such_process() {
         let mut kernel = Kernel::fresh();
-        for process in [32, 33, 255, 256, 288, 65_535, 65_536, u32::MAX] {
-            assert_eq!(kernel.why(process), (Answer { code: NO_SUCH_PROCESS, number: 0, running: 0 }, None));
+        for name in [32, 33, 255, 256, 257, 288, 65_535, 65_536, 65_537, u32::MAX] {
+            refused(&kernel, name);
         }
         kernel.create(1);
-        assert_eq!(kernel.why(32), (Answer { code: NO_SUCH_PROCESS, number: 0, running: 1 }, None));
+        for name in [1, 32, 256, 288, 289, 513, 65_793] {
+            refused(&kernel, name);
+        }
+    }
+
+    #[test]
+    fn names() {
+        let mut kernel = Kernel::fresh();
+        told(&kernel, 0, "running");
+        told(&kernel, 1, "unused"); // before any birth
+        kernel.create(2);
+        told(&kernel, 257, "running");
+        told(&kernel, 2, "unused");
+        kernel.end();
+        told(&kernel, 257, "unused"); // the name that it had last
+        refused(&kernel, 1);
+        refused(&kernel, 513);
+        kernel.create(2);
+        told(&kernel, 513, "running");
+        refused(&kernel, 257);
+        told(&kernel, 0, "behind 1");
+        kernel.end();
+        told(&kernel, 513, "unused");
+        refused(&kernel, 257);
     }
 
     #[test]

@@ -1,5 +1,5 @@
-//! The random scripts name a slice in every way, and reach every code, every kind of reason and every deep state, with fixed
-//! seeds; and each seed gives one script.
+//! The random scripts name a slice in every way, and reach every code, every kind of reason, every kind of name and every deep
+//! state, with fixed seeds; and each seed gives one script.
 
 use independent::coverage::Coverage;
 use independent::scripts::{script, Questioned, Script};
@@ -85,6 +85,38 @@ fn every_slice_is_wanted() {
     ] {
         assert!(nothing.contains(&what.to_string()), "{what}: {nothing:?}");
     }
+}
+
+#[test]
+fn every_kind_of_name_is_wanted() {
+    let nothing = Coverage::default().missing();
+    for call in ["stop", "why"] {
+        for what in [
+            "a process",
+            "a process whose name an earlier one had, 256 births ago",
+            "an unused number, by the last name that it had",
+            "a number that never was a process",
+            "a process, by a name that an earlier one had",
+            "an unused number, by a name that an earlier process had",
+            "a number alone, though it has a birth count",
+            "a number with a birth count that it has not reached",
+            "a number over 31",
+            "process 0",
+            "process 0 with a birth count",
+        ] {
+            assert!(nothing.contains(&format!("{call} of {what}")), "{call} of {what}: {nothing:?}");
+        }
+    }
+}
+
+/// Of 16 seeds one has a number that is born 258 times and is looked at closely the last times, which takes 567 lines.
+#[test]
+fn names_return_in_few_scripts() {
+    let lines = |seed: u64| script(seed, 0).split(|&byte| byte == b'\n').filter(|line| line.starts_with(b"create 0")).count();
+    let reborn: Vec<u64> = (0..64).filter(|&seed| lines(seed) >= 258).collect();
+    assert_eq!(reborn, [4, 20, 36, 52]);
+    let mut opening = Script::new(4, 0);
+    assert!(std::iter::from_fn(|| opening.next_line()).count() < 600);
 }
 
 #[test]

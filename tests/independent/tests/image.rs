@@ -32,16 +32,17 @@ fn fresh_image() {
     expected.extend([0; 64]);
     expected.extend([0xff, 0xff, 0xff, 0xff]);
     expected.extend([0; 32]);
+    expected.extend([0; 32]);
     expected.push(5);
     assert_eq!(area[..], expected[..]);
     assert_eq!(decide(&area), Some(Kernel::fresh()));
     for slice in [1, 3, 4, 200, 255] {
-        expected[443] = slice;
+        expected[475] = slice;
         let kernel = Kernel::fresh_slice(slice.into());
         assert_eq!(kernel.as_ref().map(|kernel| image(kernel).to_vec()), Some(expected.clone()));
         assert_eq!(decide(&expected), kernel);
     }
-    expected[443] = 0;
+    expected[475] = 0;
     assert_eq!(decide(&expected), None);
 }
 
@@ -49,7 +50,7 @@ fn fresh_image() {
 fn example() -> Kernel {
     let mut kernel = Kernel::fresh_slice(3).unwrap();
     (1..=7).for_each(|_| assert_eq!(kernel.create(2).code, 0));
-    [2, 3, 5, 6].into_iter().for_each(|process| assert_eq!(kernel.stop(process).code, 0));
+    [2, 3, 5, 6].into_iter().for_each(|number| assert_eq!(kernel.stop(256 + number).code, 0));
     kernel
 }
 
@@ -62,7 +63,8 @@ fn example_of_the_page() {
     assert_eq!(area[207..211], [0b0110_1100, 0xff, 0xff, 0xff]);
     assert_eq!([area[0], area[1 + 1], area[1 + 4], area[1 + 7], area[1 + 2]], [1, 2, 2, 2, 0]);
     assert_eq!([area[33 + 1], area[33 + 4], area[33 + 7], area[33 + 2]], [3, 3, 3, 0]);
-    assert_eq!(area[443], 3);
+    assert_eq!(area[443..475], [&[0][..], &[1; 7], &[0; 24]].concat());
+    assert_eq!(area[475], 3);
     assert_eq!(decide(&area), Some(example()));
 }
 
@@ -83,6 +85,31 @@ fn messages_and_counts_by_hand() {
     assert_eq!(area[343..351], [2, 1, 2, 0, 0, 2, 0, 0]);
     assert_eq!(area[407..411], [0b1111_1000, 0xff, 0xff, 0xff]);
     assert_eq!(area[439..443], [0, 0, 1, 2]);
+}
+
+/// Births survive stop and end; the state of a number that was born and is unused again has no other trace of that.
+#[test]
+fn births_by_hand() {
+    let mut kernel = Kernel::fresh();
+    (0..31).for_each(|_| assert_eq!(kernel.create(3).code, 0));
+    assert_eq!(image(&kernel)[443..475], [&[0][..], &[1; 31]].concat());
+    (257..=287).for_each(|name| assert_eq!(kernel.stop(name).code, 0));
+    let mut expected = image(&Kernel::fresh());
+    expected[444..475].fill(1);
+    assert_eq!(image(&kernel), expected);
+    assert_eq!(decide(&expected), Some(kernel.clone()));
+    for _ in 2..=255 {
+        kernel.create(0);
+        kernel.end();
+    }
+    expected[444] = 255;
+    assert_eq!(image(&kernel), expected);
+    assert_eq!(kernel.create(0).number, 1);
+    kernel.end();
+    expected[444] = 0;
+    assert_eq!(image(&kernel), expected);
+    expected[443] = 1;
+    assert_eq!(decide(&expected), None);
 }
 
 #[test]
@@ -110,11 +137,12 @@ fn there_and_back() {
 fn other_lengths() {
     let area = image(&Kernel::fresh());
     assert_eq!(decide(&[]), None);
-    assert_eq!(decide(&area[..443]), None);
-    assert_eq!(decide(&area[..442]), None);
+    assert_eq!(decide(&area[..475]), None);
+    assert_eq!(decide(&area[..474]), None);
+    assert_eq!(decide(&[&area[..443], &area[475..]].concat()), None);
     assert_eq!(decide(&[&area[..], &[0]].concat()), None);
-    assert_eq!(decide(&[0; 444]), None);
-    assert_eq!(decide(&[255; 444]), None);
+    assert_eq!(decide(&[0; 476]), None);
+    assert_eq!(decide(&[255; 476]), None);
 }
 
 /// Whether an area stays an image of a sound state when one byte of it changes, by the meaning of that byte alone.
@@ -149,7 +177,8 @@ fn stays_sound(kernel: &Kernel, area: &[u8], place: usize, byte: u8) -> bool {
             kernel.held().any(|message| message.buffer == buffer) && two(343, buffer) <= 512
         }
         411..=442 => kernel.semaphores[(place - 411) / 2].waiters.is_empty(),
-        443 => {
+        444..=474 => true,
+        475 => {
             let fits = |process: usize| match kernel.row(process) {
                 row if [AT_MAILBOX, AT_SEMAPHORE].contains(&row.place) => false,
                 row => row.ticks <= byte.into(),
@@ -242,6 +271,12 @@ fn every_line_of_where_everything_stands() {
     for slice in [0, 1, 2, 4, 255, 256] {
         assert!(!damaged(|kernel| kernel.slice = slice));
     }
+    // Names.
+    for count in [1, 2, 128, 255] {
+        assert!(!damaged(|kernel| kernel.births[0] = count));
+        assert!((1..32).all(|number| damaged(|kernel| kernel.births[number] = count)));
+    }
+    assert!(damaged(|kernel| kernel.births = [0; 32]));
     // 1, 2 and 3 wait; 4 has 2 ticks left, 5, 6 and 7 have 3.
     for (slice, sound) in [(2, false), (3, true), (4, true), (255, true), (256, false)] {
         let retuned = |kernel: &mut Kernel| {
@@ -319,16 +354,21 @@ fn bytes_by_hand() {
         assert_eq!(rewritten(&[&full(process)[..], &[bits(process)]].concat()), sound, "hand of {process}");
     }
     // The slice: none, or another than the waiters 1, 2 and 3 have, or fewer ticks than 5, 6 and 7 have left.
-    assert!(!rewritten(&[(443, 0)]));
-    assert!(!rewritten(&[(443, 2)]));
-    assert!(!rewritten(&[(443, 4)]));
+    assert!(!rewritten(&[(475, 0)]));
+    assert!(!rewritten(&[(475, 2)]));
+    assert!(!rewritten(&[(475, 4)]));
     let waiters = |ticks: u8| [(33 + 1, ticks), (33 + 2, ticks), (33 + 3, ticks)];
     let ready = |ticks: u8| [(33 + 5, ticks), (33 + 6, ticks), (33 + 7, ticks)];
-    assert!(rewritten(&[&waiters(4)[..], &[(443, 4)]].concat()));
-    assert!(rewritten(&[&waiters(255)[..], &ready(254), &[(443, 255)]].concat()));
-    assert!(!rewritten(&[&waiters(2)[..], &[(443, 2)]].concat()));
-    assert!(rewritten(&[&waiters(2)[..], &ready(2), &[(443, 2)]].concat()));
-    assert!(!rewritten(&[&waiters(0)[..], &ready(0), &[(443, 0)]].concat()));
+    assert!(rewritten(&[&waiters(4)[..], &[(475, 4)]].concat()));
+    assert!(rewritten(&[&waiters(255)[..], &ready(254), &[(475, 255)]].concat()));
+    assert!(!rewritten(&[&waiters(2)[..], &[(475, 2)]].concat()));
+    assert!(rewritten(&[&waiters(2)[..], &ready(2), &[(475, 2)]].concat()));
+    assert!(!rewritten(&[&waiters(0)[..], &ready(0), &[(475, 0)]].concat()));
+    // The birth count of 0 is 0; every other one may be anything.
+    for count in [1, 127, 128, 255] {
+        assert!(!rewritten(&[(443, count)]));
+        assert!((444..475).all(|place| rewritten(&[(place, count)])));
+    }
     // Bits that disagree with the places.
     assert!(!rewritten(&[(203, 0b1)]));
     assert!(!rewritten(&[(203, 0b111)]));

@@ -1,6 +1,6 @@
 //! Areas that may or may not hold a sound state.
 
-use independent::image::{image, IMAGE_BYTES, SLICE};
+use independent::image::{image, BIRTH_COUNT, IMAGE_BYTES, SLICE};
 use independent::kernel::*;
 use independent::random::Random;
 
@@ -49,12 +49,13 @@ pub fn damaged(images: &[Vec<u8>], random: &mut Random) -> Vec<u8> {
     let mut area = images[random.below(images.len())].clone();
     for _ in 0..random.between(1, 4) {
         let (at, other) = (random.below(area.len()), random.below(area.len()));
-        match random.below(6) {
+        match random.below(7) {
             0 => area[at] = random.next() as u8,
             1 => area[at] = random.below(70) as u8,
             2 => area[at] ^= 1 << random.below(8),
             3 => area.swap(at, other),
             4 => area[SLICE] = random.below(8) as u8,
+            5 => area[BIRTH_COUNT + random.below(3)] = random.next() as u8,
             _ => {
                 let from = &images[random.below(images.len())];
                 let end = (at + random.between(1, 70)).min(area.len());
@@ -102,7 +103,7 @@ fn displace(kernel: &mut Kernel, random: &mut Random) {
     let (mailbox, other) = (random.below(MAILBOXES), random.below(MAILBOXES));
     let class = random.below(CLASSES);
     let queued = kernel.mailboxes[other].messages.pop_back();
-    match random.below(17) {
+    match random.below(19) {
         0 => kernel.ready[class].push_back(kernel.running),
         1 => kernel.mailboxes[mailbox].waiters.push_back(kernel.running),
         2 => kernel.semaphores[mailbox].waiters.push_front(kernel.running),
@@ -129,6 +130,8 @@ fn displace(kernel: &mut Kernel, random: &mut Random) {
         }
         12 => kernel.mailboxes[mailbox].messages.extend(queued.clone()),
         13 => kernel.slice = random.below(8) as u32,
+        14 => kernel.births[0] = random.below(3) as u8,
+        15 => kernel.births[number] = random.next() as u8,
         _ => {
             let Some(process) = &mut kernel.processes[number] else { return };
             match random.below(4) {

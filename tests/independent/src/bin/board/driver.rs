@@ -7,6 +7,7 @@ use independent::image::{image, IMAGE_BYTES};
 use independent::kernel::{Kernel, BUFFER_BYTES, PROCESSES};
 use independent::lent;
 use independent::listing::Row;
+use independent::names::{Born, Kind, IN_SCRIPTS};
 use independent::why::KINDS;
 use std::collections::BTreeMap;
 use std::io::{self, BufReader, BufWriter, Read, Write};
@@ -40,8 +41,25 @@ struct Expected {
     lent: Vec<u8>,
 }
 
-/// How often questions were answered with what.
+/// How often something came.
 type Tally = BTreeMap<String, usize>;
+
+fn add_all(to: &mut Tally, from: &Tally) {
+    for (what, times) in from {
+        *to.entry(what.clone()).or_default() += times;
+    }
+}
+
+/// The call with a name of this kind, for the calls that take one.
+fn naming(call: &str, kind: Kind) -> String {
+    format!("{call} of {}", kind.words())
+}
+
+/// All that names can be, in both calls that take one.
+fn all_that_is_named() -> impl Iterator<Item = String> {
+    let kinds = || IN_SCRIPTS.into_iter().chain([Kind::Over65535]);
+    ["stop", "why"].into_iter().flat_map(move |call| kinds().map(move |kind| naming(call, kind)))
+}
 
 fn kind(number: u32) -> String {
     format!("kind {number}")
@@ -63,6 +81,7 @@ pub struct Batch {
     request: Vec<u8>,
     expected: Vec<Expected>,
     questions: Tally,
+    names: Tally,
 }
 
 impl Batch {
@@ -108,7 +127,7 @@ impl Batch {
     fn request_call(&mut self, call: &Call) {
         match call {
             Call::Create(class) => self.request(1, *class, 0, &[]),
-            Call::Stop(process) => self.request(2, *process, 0, &[]),
+            Call::Stop(name) => self.request(2, *name, 0, &[]),
             Call::End => self.request(3, 0, 0, &[]),
             Call::Yield => self.request(4, 0, 0, &[]),
             Call::Class(class) => self.request(5, *class, 0, &[]),
@@ -119,7 +138,7 @@ impl Batch {
             Call::Release => self.request(10, 0, 0, &[]),
             Call::Signal(semaphore) => self.request(11, *semaphore, 0, &[]),
             Call::Wait(semaphore) => self.request(12, *semaphore, 0, &[]),
-            Call::Why(process) => self.request(WHY, *process, 0, &[]),
+            Call::Why(name) => self.request(WHY, *name, 0, &[]),
         }
     }
 
@@ -131,6 +150,16 @@ impl Batch {
             _ => return,
         };
         *self.questions.entry(what).or_default() += 1;
+    }
+
+    /// Counts a name that a call takes by what it is, after calls in which numbers were born so often.
+    pub fn count_name(&mut self, kernel: &Kernel, born: &Born, call: &Call) {
+        let what = match call {
+            Call::Stop(name) => naming("stop", born.kind(kernel, *name)),
+            Call::Why(name) => naming("why", born.kind(kernel, *name)),
+            _ => return,
+        };
+        *self.names.entry(what).or_default() += 1;
     }
 
     /// A call on the kernel's image: the kernel and the store are changed as they must be.
@@ -209,6 +238,7 @@ pub struct Board {
     failed: usize,
     codes: [usize; 64],
     questions: Tally,
+    names: Tally,
 }
 
 impl Board {
@@ -216,14 +246,13 @@ impl Board {
         let mut driver = Command::new(&command[0]).args(&command[1..]).stdin(Stdio::piped()).stdout(Stdio::piped()).spawn()?;
         let requests = BufWriter::new(driver.stdin.take().expect("a pipe"));
         let replies = BufReader::new(driver.stdout.take().expect("a pipe"));
-        Ok(Board { driver, requests, replies, passed: 0, failed: 0, codes: [0; 64], questions: Tally::new() })
+        Ok(Board { driver, requests, replies, passed: 0, failed: 0, codes: [0; 64], questions: Tally::new(), names: Tally::new() })
     }
 
     /// Makes the calls of a batch and compares each. A driver that stops is an error.
     pub fn run(&mut self, batch: &Batch) -> io::Result<()> {
-        for (what, times) in &batch.questions {
-            *self.questions.entry(what.clone()).or_default() += times;
-        }
+        add_all(&mut self.questions, &batch.questions);
+        add_all(&mut self.names, &batch.names);
         let (requests, replies) = (&mut self.requests, &mut self.replies);
         let (passed, failed, codes, driver) = (&mut self.passed, &mut self.failed, &mut self.codes, &mut self.driver);
         std::thread::scope(|scope| {
@@ -268,8 +297,13 @@ impl Board {
         }
         let codes: Vec<String> = (0..64).filter(|&code| self.codes[code] > 0).map(|code| format!("{code}: {}", self.codes[code])).collect();
         println!("answers by code: {}", codes.join(", "));
-        let questions: Vec<String> = self.questions.iter().map(|(what, times)| format!("{what}: {times}")).collect();
-        println!("questions by answer: {}", questions.join(", "));
+        let shown = |tally: &Tally| tally.iter().map(|(what, times)| format!("{what}: {times}")).collect::<Vec<_>>().join("; ");
+        println!("questions by answer: {}", shown(&self.questions));
+        println!("names: {}", shown(&self.names));
+        for what in all_that_is_named().filter(|what| !self.names.contains_key(what)) {
+            println!("no call took such a name: {what}");
+            self.failed += 1;
+        }
         for what in all_that_is_told().filter(|what| !self.questions.contains_key(what)) {
             println!("no question was answered so: {what}");
             self.failed += 1;

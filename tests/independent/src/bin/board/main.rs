@@ -9,8 +9,9 @@ use areas::{damaged, every_bit_flipped, every_byte_changed, out_of_place, random
 use driver::{Batch, Board};
 use independent::call::Call;
 use independent::grammar::{named_slice, parse};
-use independent::image::{decide, field_of, image, take_bytes, IMAGE_BYTES};
-use independent::kernel::{Kernel, BUFFER_BYTES, LONGEST_SLICE, PROCESSES, STORE_BYTES};
+use independent::image::{decide, field_of, image, take_bytes, BIRTH_COUNT, IMAGE_BYTES};
+use independent::kernel::{Kernel, BIRTHS, BUFFER_BYTES, LONGEST_SLICE, PROCESSES, STORE_BYTES};
+use independent::names::Born;
 use independent::random::Random;
 use independent::scripts::Script;
 use std::io;
@@ -30,8 +31,11 @@ const RANDOM_AREAS: usize = 2_000;
 const TABLES: [usize; 7] = [0, 1, PROCESSES - 1, PROCESSES, PROCESSES + 1, PROCESSES + 2, 4_096];
 /// The most rows that a table is given between calls.
 const ROWS: usize = PROCESSES + 2;
-/// Numbers of processes that there are not, some of which another width would take for others.
-const BEYOND: [u32; 8] = [32, 33, 255, 256, 287, 65_536, 0x8000_0000, u32::MAX];
+/// Names that nobody has, some of which another width would take for others.
+const BEYOND: [u32; 8] = [32, 33, 255, 256, 288, 65_536, 0x8000_0000, u32::MAX];
+
+/// So many names that numbers do not have are asked about with those that they have.
+const OTHER_NAMES: usize = 8;
 
 /// Slices that there are not, some of which another width would take for others.
 const REFUSED_SLICES: [u32; 11] = [0, 256, 257, 259, 511, 65_535, 65_536, 65_541, 0x8000_0003, 0xffff_ff05, u32::MAX];
@@ -42,12 +46,12 @@ const OTHER_LENGTHS: [usize; 8] = [0, 1, IMAGE_BYTES - 2, IMAGE_BYTES - 1, IMAGE
 /// Fresh starts are made on so many areas of each kind: sound, damaged and random ones.
 const STARTED_AREAS: usize = 8;
 
-/// The same call with a number past all that a script can name.
+/// The same call with a number past all that a script can name. That of a stop is the name in its lowest 16 bits.
 fn enlarged(call: &Call, random: &mut Random) -> Call {
     let large = random.next() as u32 | 1 << 16;
     match call {
         Call::Create(_) => Call::Create(large),
-        Call::Stop(_) => Call::Stop(large),
+        Call::Stop(name) => Call::Stop((large & 0xffff_0000) + name),
         Call::Class(_) => Call::Class(large),
         Call::Send(_, bytes) => Call::Send(large, bytes.clone()),
         Call::Receive(_) => Call::Receive(large),
@@ -67,32 +71,57 @@ fn sequence(seed: u64, calls: u64, store: &mut [u8]) -> (Batch, Kernel) {
         area = batch.fresh(&area, IMAGE_BYTES, Some(slice));
     }
     let mut kernel = decide(&area).expect("the image of a fresh kernel");
+    let mut born = Born::default();
     for line in lines {
         let Some(call) = parse(&line) else { continue };
-        batch.call(&mut kernel, store, &call);
-        if random.one_in(60) {
-            batch.call(&mut kernel, store, &enlarged(&call, &mut random));
+        let large = if random.one_in(60) { Some(enlarged(&call, &mut random)) } else { None };
+        for call in large.iter().chain([&call]) {
+            batch.count_name(&kernel, &born, call);
+            batch.call(&mut kernel, store, call);
+            born.follow(&kernel);
+        }
+        if random.one_in(12) {
+            let question = Call::Why(born.draw(&kernel, &mut random) + if random.one_in(10) { BIRTHS * BIRTHS } else { 0 });
+            batch.count_name(&kernel, &born, &question);
+            batch.call(&mut kernel, store, &question);
         }
         if random.one_in(10) {
             let shortest = if random.one_in(4) { 0 } else { PROCESSES };
             batch.listing(&kernel, random.between(shortest, ROWS));
         }
         if random.one_in(100) {
-            ask_about_all(&mut batch, &mut kernel, store);
+            ask_about_all(&mut batch, &mut kernel, store, &mut random);
         }
         assert!(all_whole(&kernel, store), "the expected store holds every message whole");
     }
-    ask_about_all(&mut batch, &mut kernel, store);
+    ask_about_all(&mut batch, &mut kernel, store, &mut random);
     for rows in TABLES {
         batch.listing(&kernel, rows);
     }
     (batch, kernel)
 }
 
-/// Asks why about every process, and about some that there are not.
-fn ask_about_all(batch: &mut Batch, kernel: &mut Kernel, store: &mut [u8]) {
-    for process in (0..PROCESSES as u32).chain(BEYOND) {
-        batch.call(kernel, store, &Call::Why(process));
+/// Asks why about every number by its name, about some by others, and about names that nobody has.
+fn ask_about_all(batch: &mut Batch, kernel: &mut Kernel, store: &mut [u8], random: &mut Random) {
+    let mut names: Vec<u32> = (0..PROCESSES).map(|number| kernel.name(number)).chain(BEYOND).collect();
+    for _ in 0..OTHER_NAMES {
+        let number = random.below(PROCESSES);
+        names.push(another_name(number, kernel.name(number), random));
+    }
+    for name in names {
+        batch.call(kernel, store, &Call::Why(name));
+    }
+}
+
+/// The number alone, or what is easily taken for its name: that of another birth, of another number, or of another width.
+fn another_name(number: usize, name: u32, random: &mut Random) -> u32 {
+    match random.below(6) {
+        0 => number as u32,
+        1 => (name + BIRTHS * (BIRTHS - 1)) % (BIRTHS * BIRTHS),
+        2 => (name + BIRTHS) % (BIRTHS * BIRTHS),
+        3 => name + BIRTHS * BIRTHS,
+        4 => name + PROCESSES as u32,
+        _ => number as u32 + BIRTHS * random.below(BIRTHS as usize) as u32,
     }
 }
 
@@ -125,12 +154,23 @@ fn all_whole(kernel: &Kernel, store: &[u8]) -> bool {
     kernel.held().all(|message| store[message.buffer * BUFFER_BYTES..].starts_with(&message.bytes))
 }
 
-/// Any call, whatever the state is.
-fn any_call(random: &mut Random) -> Call {
+/// A name, by the birth counts that an area has: mostly one of a number from 0 to 31.
+fn any_name(area: &[u8], random: &mut Random) -> u32 {
+    let number = random.below(PROCESSES);
+    let name = number as u32 + BIRTHS * u32::from(area[BIRTH_COUNT + number]);
+    if random.one_in(4) {
+        another_name(number, name, random)
+    } else {
+        name
+    }
+}
+
+/// Any call, whatever the state in an area is.
+fn any_call(area: &[u8], random: &mut Random) -> Call {
     let number = random.below(18) as u32;
     match random.below(12) {
         0 => Call::Create(number % 6),
-        1 => Call::Stop(random.below(33) as u32),
+        1 => Call::Stop(any_name(area, random)),
         2 => Call::End,
         3 => Call::Yield,
         4 => Call::Class(number % 6),
@@ -148,17 +188,17 @@ fn any_call(random: &mut Random) -> Call {
 }
 
 /// Asks why and makes a call on an area: both are refused exactly where the model's own decision refuses it. True if they
-/// were not. Of the sound ones, one in ten is asked about every process.
+/// were not. Of the sound ones, one in ten is asked about every number.
 fn judged(batch: &mut Batch, area: &[u8], store: &mut [u8], random: &mut Random) -> bool {
-    let call = any_call(random);
-    let question = Call::Why(random.below(PROCESSES + 8) as u32);
+    let call = any_call(area, random);
+    let question = Call::Why(any_name(area, random));
     batch.put(area);
     match decide(area) {
         Some(mut kernel) => {
             take_bytes(&mut kernel, store);
             batch.call(&mut kernel, store, &question);
             if random.one_in(10) {
-                ask_about_all(batch, &mut kernel, store);
+                ask_about_all(batch, &mut kernel, store, random);
             }
             batch.call(&mut kernel, store, &call);
             true
@@ -183,7 +223,7 @@ fn judge_all(board: &mut Board, name: String, store: &mut [u8], areas: impl Iter
 }
 
 /// Fields in which a flipped bit may leave a state that is sound.
-const UNNOTICED: [&str; 5] = ["class", "ticks", "length", "count", "slice"];
+const UNNOTICED: [&str; 6] = ["class", "ticks", "length", "count", "births", "slice"];
 
 /// Flips each bit in turn, and prints in which fields nobody can notice it.
 fn flip_all(board: &mut Board, name: &str, store: &mut [u8], sound: &[u8]) -> io::Result<()> {
