@@ -1,9 +1,8 @@
 -- The birth counts that an array holds after each change, where it held some before, and the names by them.
 -- Assumes nothing.
-use Prim.Native.Nat.{ℕ, _<_, _≤_}
-use mathlib.Core.Bool.{Bool}
+use Prim.Native.Nat.{ℕ, _<_}
 use mathlib.Core.Logic.{⊎-elim}
-use mathlib.Core.Path.{_≡_, refl, sym, ap, _∙_, fun-ext}
+use mathlib.Core.Path.{_≡_, refl, sym, _∙_, fun-ext}
 use mathlib.Core.List.{List}
 use native.Mathlib.Omega.{arith}
 use lib.Dec.{eqb}
@@ -12,7 +11,7 @@ use lib.Seq.{getD-set-same, getD-set-other, ext-getD}
 use borrow.Author.Tests.{eq-eqb, ne-eqb}
 use Rattle.lists.specs.Lists.{put}
 use Rattle.lists.proofs.Laws.{same?, put-cases, zeros}
-use Rattle.plain.specs.Names.{rounds, raised, name, names, Births}
+use Rattle.plain.specs.Names.{rounds, raised, names, Births}
 use Rattle.plain.specs.Sizes.{processes}
 use Rattle.rings.specs.Decides.{Decides}
 use Rattle.names.specs.Counts.{countIn, Kept, born}

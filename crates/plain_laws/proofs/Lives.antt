@@ -1,24 +1,22 @@
 -- What becomes of a name: births and stops counted over a history, and what is refused by then.
 -- Assumes nothing.
-use Prim.Native.Nat.{ℕ, _+_, _-_, _*_, _%_, _≤_, _<_}
+use Prim.Native.Nat.{ℕ, _+_, _-_, _%_, _≤_, _<_}
 use mathlib.Core.Path.{_≡_, refl, sym, ap, _∙_, subst}
-use mathlib.Core.Bool.{Bool, true, false, not, _&&_, _||_, true≢false}
+use mathlib.Core.Bool.{Bool, true, false, not, _&&_, _||_}
 use mathlib.Core.Logic.{_≢_, _⊎_, inl, inr, ⊎-elim}
 use mathlib.Core.List.{List, [], _∷_}
 use native.Mathlib.Omega.{arith}
-use lib.Dec.{eqb}
 use borrow.Author.Tests.{eqb-true, eq-eqb, ne-eqb}
 use Rattle.lists.specs.Lists.{if_then_else_}
 use Rattle.lists.proofs.Laws.{either, same?, le?, one-same}
-use Rattle.plain.specs.Sizes.{processes, classes}
-use Rattle.plain.specs.State.{Procs, Settings, State, start, places, unused, freeProcess}
-use Rattle.plain.specs.Names.{rounds, raised, name, bare, names}
-use Rattle.plain.specs.Calls.{Call, create, stop, Outcome, noProcess, on, done, refused, stopped, perform, refusals, step, after}
+use Rattle.plain.specs.Sizes.{processes}
+use Rattle.plain.specs.State.{Procs, State, places, unused, freeProcess}
+use Rattle.plain.specs.Names.{rounds, name, bare, names}
+use Rattle.plain.specs.Calls.{Call, create, stop, Outcome, on, done, refused, stopped, perform, refusals, step, after}
 use Rattle.plain.specs.Sound.{Used, Sound}
-use Rattle.plain.specs.Start.{Set}
 use Rattle.plain.specs.Why as Why
-use Rattle.plain_laws.specs.History.{Passed, as-one, isDone, isRefusal, Moment, moments}
-use Rattle.plain_laws.specs.Names.{begins, ends, bornIn, stoppedIn, Taken, noSuch, Fate}
+use Rattle.plain_laws.specs.History.{Passed, as-one, isDone, isRefusal, moments}
+use Rattle.plain_laws.specs.Names.{bornIn, stoppedIn, Taken, noSuch, Fate}
 use Rattle.plain_laws.proofs.Names.{bare-name, named, is-named}
 use Rattle.plain_laws.proofs.Calls.{accepted, next-process}
 use Rattle.plain_laws.proofs.Frames.{slice-some, arrived}

@@ -13,7 +13,8 @@ fn show(state: &[u8], out: &mut [u8]) -> Told
         return telling::not_sound(out);
     }
     let rows = sheet.rows;
-    let length = wording::put_page(out, rows);
+    let births = image::read(state).births;
+    let length = wording::put_page(out, births, rows);
     Told { good: true, length }
 }
 

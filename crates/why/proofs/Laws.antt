@@ -19,7 +19,7 @@ use Rattle.reasons.proofs.Theorems.{told-reason}
 use Rattle.reasons.specs.Reasons.{meant, Explains}
 use Rattle.reasons.specs.declared.Explained as Code
 use Rattle.kernel.specs.Promise.{said}
-use Rattle.board.specs.Area.{Lies, IsSound}
+use Rattle.board.specs.Area.{Lies}
 use Rattle.wording.specs.Words.{sentence}
 use Rattle.telling.specs.Promise.{notSound, Refused, refused}
 use Rattle.why.specs.Promise.{noProcess, Explained, unsound, nobody, known}

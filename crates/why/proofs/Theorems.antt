@@ -4,7 +4,7 @@ use Prim.Native.Nat.{ℕ}
 use mathlib.Core.Bool.{Bool, true≢false}
 use mathlib.Core.List.{List}
 use mathlib.Core.Option.{Option, none, some}
-use mathlib.Core.Path.{_≡_, refl, sym, _∙_}
+use mathlib.Core.Path.{refl, sym, _∙_}
 use Rattle.script.specs.Grammar.{number}
 use Rattle.telling.specs.Theorems.{Same, One}
 use Rattle.telling.proofs.Theorems.{one-fault, one-of-input, one-told, text-fits}

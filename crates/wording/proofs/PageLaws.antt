@@ -1,19 +1,20 @@
 -- Laws of a page: how long its lines can be, so that there is room for each, and that said piece by piece they are whole.
 -- Assumes nothing.
-use Prim.Native.Nat.{ℕ, zero, suc, _+_, _-_, _^_, _≤_, _<_}
+use Prim.Native.Nat.{ℕ, zero, suc, _+_, _-_, _/_, _^_, _≤_, _<_}
 use mathlib.Core.Bool.{Bool, true, false}
 use mathlib.Core.List.{List, [], _∷_, _++_, append-assoc}
 use mathlib.Core.Path.{_≡_, refl, sym, ap, _∙_}
 use native.Mathlib.Omega.{arith}
 use native.Mathlib.Numerals.{add-one}
-use lib.Dec.{eqb}
+use lib.Dec.{eqb, ltb}
 use lib.ListN.{length, length-append, replicate, length-replicate}
 use Rattle.lists.specs.Lists.{if_then_else_, total}
 use Rattle.lists.proofs.Laws.{total-same}
+use Rattle.plain.specs.Names as Names
 use Rattle.plain.specs.Sizes.{processes}
 use Rattle.answers.specs.Answer.{decimal}
 use Rattle.answers.specs.Ascii.{ascii, space}
-use Rattle.answers.proofs.TextLaws.{byte-short, decimal-short}
+use Rattle.answers.proofs.TextLaws.{byte-short, decimal-short, decimal-length}
 use Rattle.rows.specs.declared.Row.{Row}
 use Rattle.wording.specs.Page.{newline, cell, order, queued, stands, bytes, inHand, rowLine, isUsed, lineOf, lines, unusedIn, page}
 use Rattle.wording.specs.Promises.{room, more}
@@ -89,23 +90,41 @@ hand-short r s = go (eqb (r .full) 0)
     go true = omega arith
     go false = omega (arith, bytes-short (r .length) (s .length))
 
+-- ---- the digits of a name
+
+digit-more : (n k : ℕ) → length (decimal (n / 10)) ≤ k → length (decimal n) ≤ suc k
+digit-more n k h = rw (decimal-length n) (go (ltb 0 (n / 10)))
+  where
+    go : (any : Bool) → length (if any then decimal (n / 10) else []) + 1 ≤ suc k
+    go true = omega (arith, h)
+    go false = omega arith
+
+-- a number of 16 bits has at most six
+name-short : (n : ℕ) → n < 2 ^ 16 → length (decimal n) ≤ 6
+name-short n h = digit-more n 5 (digit-more (n / 10) 4 (digit-more (n / 10 / 10) 3 (byte-short (n / 10 / 10 / 10) (omega arith))))
+
+pub name-small : (births : ℕ → ℕ) (p : ℕ) → p < 2 ^ 8 → births p < 2 ^ 8 → Names.name births p < 2 ^ 16
+unfolding Names.name
+name-small births p h k = omega arith
+
 -- ---- the line of a row
 
-module _ (p : ℕ) (r : Row) (small : p < 2 ^ 8) (s : Sized r) where
-  pub row-line-short : length (rowLine p r) ≤ room
+module _ (name : ℕ → ℕ) (p : ℕ) (r : Row) (small : p < 2 ^ 8) (named : name p < 2 ^ 16) (s : Sized r) where
+  pub row-line-short : length (rowLine name p r) ≤ room
   unfolding rowLine
   row-line-short = simp length-append (omega (
     arith,
     cell-length 9 (decimal p) (omega (arith, byte-short p small)),
+    cell-length 7 (decimal (name p)) (omega (arith, name-short (name p) named)),
     cell-length 30 (stands r) (omega (arith, stands-short r s)),
     cell-length 7 (decimal (r .class)) (omega (arith, byte-short (r .class) (s .class))),
     cell-length 12 (decimal (r .ticks)) (omega (arith, byte-short (r .ticks) (s .ticks))),
     hand-short r s,
   ))
 
-  pub row-line-whole : more (more (more (more (more (more [] (cell 9 (decimal p))) (cell 30 (stands r))) (cell 7 (decimal (r .class)))) (cell 12 (decimal (r .ticks)))) (inHand r)) (newline ∷ []) ≡ rowLine p r
+  pub row-line-whole : more (more (more (more (more (more (more [] (cell 9 (decimal p))) (cell 7 (decimal (name p)))) (cell 30 (stands r))) (cell 7 (decimal (r .class)))) (cell 12 (decimal (r .ticks)))) (inHand r)) (newline ∷ []) ≡ rowLine name p r
   unfolding rowLine
-  row-line-whole = simp more-more (simp append-assoc (simp append-assoc at (alone (rowLine p r) row-line-short)))
+  row-line-whole = simp more-more (simp append-assoc (simp append-assoc at (alone (rowLine name p r) row-line-short)))
 
 -- ---- the last line
 
@@ -117,20 +136,20 @@ many-unused n h =
 
 -- ---- who has a line, and who is counted
 
-module _ (p : ℕ) (r : Row) where
-  pub line-used : isUsed r ≡ true → lineOf p r ≡ rowLine p r
+module _ (name : ℕ → ℕ) (p : ℕ) (r : Row) where
+  pub line-used : isUsed r ≡ true → lineOf name p r ≡ rowLine name p r
   unfolding lineOf
   line-used e = rw e
 
-  pub line-unused : isUsed r ≡ false → lineOf p r ≡ []
+  pub line-unused : isUsed r ≡ false → lineOf name p r ≡ []
   unfolding lineOf
   line-unused e = rw e
 
-module _ (row : ℕ → Row) (i : ℕ) where
-  pub lines-next : lines (i + 1) row ≡ lines i row ++ lineOf i (row i)
-  unfolding lines
-  lines-next = rw add-one
+pub lines-next : (name : ℕ → ℕ) (row : ℕ → Row) (i : ℕ) → lines (i + 1) name row ≡ lines i name row ++ lineOf name i (row i)
+unfolding lines
+lines-next name row i = rw add-one
 
+module _ (row : ℕ → Row) (i : ℕ) where
   pub unused-next : unusedIn (i + 1) row ≡ (if isUsed (row i) then 0 else 1) + unusedIn i row
   unfolding total
   unused-next = rw add-one
@@ -144,13 +163,13 @@ module _ (row : ℕ → Row) (i : ℕ) where
 
 -- ---- a page is what its rows are
 
-lines-same : (f g : ℕ → Row) (n : ℕ) → ((i : ℕ) → i < n → f i ≡ g i) → lines n f ≡ lines n g
+lines-same : (name : ℕ → ℕ) (f g : ℕ → Row) (n : ℕ) → ((i : ℕ) → i < n → f i ≡ g i) → lines n name f ≡ lines n name g
 unfolding lines
-lines-same f g zero h = refl
-lines-same f g (suc n) h = rw (lines-same f g n (λ i k. h i (omega arith)), h n (omega arith))
+lines-same name f g zero h = refl
+lines-same name f g (suc n) h = rw (lines-same name f g n (λ i k. h i (omega arith)), h n (omega arith))
 
-pub page-same : (f g : ℕ → Row) → ((i : ℕ) → i < processes → f i ≡ g i) → page f ≡ page g
+pub page-same : (name : ℕ → ℕ) (f g : ℕ → Row) → ((i : ℕ) → i < processes → f i ≡ g i) → page name f ≡ page name g
 unfolding page
-page-same f g h =
+page-same name f g h =
     let counted : unusedIn processes f ≡ unusedIn processes g = total-same processes _ _ (λ i low. ap (λ (r : Row). if isUsed r then 0 else 1) (h i low)) in
-    rw (lines-same f g processes h, counted)
+    rw (lines-same name f g processes h, counted)

@@ -22,12 +22,12 @@ newline = 10
 unfoldable pub cell : ℕ → List ℕ → List ℕ
 cell width text = text ++ replicate (width - length text) space
 
--- process, where it stands, class, ticks left, what is in its hand
-abbrev pub columns : List ℕ → List ℕ → List ℕ → List ℕ → List ℕ → List ℕ
-columns process stands class ticks hand = cell 9 process ++ cell 30 stands ++ cell 7 class ++ cell 12 ticks ++ hand ++ (newline ∷ [])
+-- process, its name, where it stands, class, ticks left, what is in its hand
+abbrev pub columns : List ℕ → List ℕ → List ℕ → List ℕ → List ℕ → List ℕ → List ℕ
+columns process name stands class ticks hand = cell 9 process ++ cell 7 name ++ cell 30 stands ++ cell 7 class ++ cell 12 ticks ++ hand ++ (newline ∷ [])
 
 unfoldable pub header : List ℕ
-header = columns (ascii "Process") (ascii "Stands") (ascii "Class") (ascii "Ticks left") (ascii "In hand")
+header = columns (ascii "Process") (ascii "Name") (ascii "Stands") (ascii "Class") (ascii "Ticks left") (ascii "In hand")
 
 -- ---- a row in words
 
@@ -51,9 +51,9 @@ bytes n = if eqb n 1 then ascii "1 byte" else decimal n ++ ascii " bytes"
 abbrev pub inHand : Row → List ℕ
 inHand r = if eqb (r .full) 0 then ascii "nothing" else ascii "a message of " ++ bytes (r .length)
 
--- the line of process p
-unfoldable pub rowLine : ℕ → Row → List ℕ
-rowLine p r = columns (decimal p) (stands r) (decimal (r .class)) (decimal (r .ticks)) (inHand r)
+-- the line of process p, whose name is name p
+unfoldable pub rowLine : (ℕ → ℕ) → ℕ → Row → List ℕ
+rowLine name p r = columns (decimal p) (decimal (name p)) (stands r) (decimal (r .class)) (decimal (r .ticks)) (inHand r)
 
 -- ---- the page
 
@@ -62,13 +62,13 @@ abbrev pub isUsed : Row → Bool
 isUsed r = ltb 0 (r .place) && leb (r .place) 5
 
 -- who is unused has no line
-unfoldable pub lineOf : ℕ → Row → List ℕ
-lineOf p r = if isUsed r then rowLine p r else []
+unfoldable pub lineOf : (ℕ → ℕ) → ℕ → Row → List ℕ
+lineOf name p r = if isUsed r then rowLine name p r else []
 
 -- the lines of the first n processes
-unfoldable pub lines : ℕ → (ℕ → Row) → List ℕ
-lines zero row = []
-lines (suc n) row = lines n row ++ lineOf n (row n)
+unfoldable pub lines : ℕ → (ℕ → ℕ) → (ℕ → Row) → List ℕ
+lines zero name row = []
+lines (suc n) name row = lines n name row ++ lineOf name n (row n)
 
 -- how many of the first n processes are unused
 abbrev pub unusedIn : ℕ → (ℕ → Row) → ℕ
@@ -80,9 +80,9 @@ unusedLine n =
     else (if eqb n 1 then ascii "1 process is unused."
     else decimal n ++ ascii " processes are unused.")) ++ (newline ∷ [])
 
--- the page of the rows of all processes
-unfoldable pub page : (ℕ → Row) → List ℕ
-page row = header ++ lines processes row ++ unusedLine (unusedIn processes row)
+-- the page of the names and rows of all processes
+unfoldable pub page : (ℕ → ℕ) → (ℕ → Row) → List ℕ
+page name row = header ++ lines processes name row ++ unusedLine (unusedIn processes row)
 
 -- an area of so many bytes takes every page: a line for each process, the header and the last line
 abbrev pub pageRoom : ℕ

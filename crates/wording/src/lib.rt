@@ -9,6 +9,8 @@ ghost use Prim.Native.Nat.{_≤_};
 ghost use lib.ListN.{length};
 ghost use Rattle.answers.specs.Answer.{answer};
 ghost use Rattle.answers.specs.Written.{Written};
+ghost use Rattle.names.specs.Counts.{countIn};
+ghost use Rattle.plain.specs.Names.{name};
 ghost use Rattle.reasons.specs.Reasons.{meant};
 ghost use Rattle.wording.specs.Page.{page, pageRoom, rowAt};
 ghost use Rattle.wording.specs.Promises.{room};
@@ -49,12 +51,12 @@ pub fn put_sentence(out: &mut [u8], process: u8, reason: Reason) -> usize
     phrase::put(out, sentence::say_about(who, reason))
 }
 
-// The page of the rows of all processes.
-pub fn put_page(out: &mut [u8], rows: [Row; PROCESSES]) -> usize
-    ensures { λ r. ⌜ Written (page (rowAt rows)) (now (out .entry)) (now (out .exit)) r ⌝ }
-    ensures { λ r. ⌜ length (page (rowAt rows)) ≤ pageRoom ⌝ }
+// The page of the rows of all processes, with the names that these birth counts give them.
+pub fn put_page(out: &mut [u8], births: [u8; PROCESSES], rows: [Row; PROCESSES]) -> usize
+    ensures { λ r. ⌜ Written (page (name (countIn births)) (rowAt rows)) (now (out .entry)) (now (out .exit)) r ⌝ }
+    ensures { λ r. ⌜ length (page (name (countIn births)) (rowAt rows)) ≤ pageRoom ⌝ }
 {
     let mut text = [0; LONGEST_PAGE];
-    let end = page::lay_page(&mut text, rows);
+    let end = page::lay_page(&mut text, births, rows);
     answers::area::put(out, &text[..end])
 }

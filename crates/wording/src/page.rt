@@ -3,6 +3,8 @@ ghost use mathlib.Core.Path.{_≡_};
 ghost use Prim.Native.Nat.{_+_, _*_, _≤_};
 ghost use lib.ListN.{length};
 ghost use Rattle.lists.specs.Lists.{if_then_else_};
+ghost use Rattle.names.specs.Counts.{countIn};
+ghost use Rattle.plain.specs.Names.{name};
 ghost use Rattle.plain.specs.Sizes.{processes};
 ghost use Rattle.wording.specs.Page.{header, isUsed, lineOf, lines, unusedIn, unusedLine, page, pageRoom, rowAt};
 ghost use Rattle.wording.specs.Promises.{room, soFar, Adds};
@@ -25,7 +27,7 @@ fn header() -> Phrase
 {
     say(
         nothing(),
-        b"Process  Stands                        Class  Ticks left  In hand\n",
+        b"Process  Name   Stands                        Class  Ticks left  In hand\n",
     )
 }
 
@@ -81,34 +83,34 @@ fn lay(out: &mut [u8], at: usize, t: Phrase) -> usize
     at + put(&mut out[at..], t)
 }
 
-fn lay_row(out: &mut [u8], at: usize, process: u8, row: Row) -> usize
+fn lay_row(out: &mut [u8], at: usize, births: [u8; PROCESSES], process: u8, row: Row) -> usize
     requires { ⌜ at + room ≤ length (now out) ⌝ }
-    ensures { λ r. ⌜ Adds room (lineOf process row) (now (out .entry)) (now (out .exit)) at r ⌝ }
+    ensures { λ r. ⌜ Adds room (lineOf (name (countIn births)) process row) (now (out .entry)) (now (out .exit)) at r ⌝ }
 {
     if is_used(row) {
-        return lay(out, at, row_line(process, row));
+        return lay(out, at, row_line(births, process, row));
     }
     at
 }
 
-fn lay_rows(out: &mut [u8], at: usize, rows: [Row; PROCESSES]) -> usize
+fn lay_rows(out: &mut [u8], at: usize, births: [u8; PROCESSES], rows: [Row; PROCESSES]) -> usize
     requires { ⌜ at + processes * room ≤ length (now out) ⌝ }
-    ensures { λ r. ⌜ Adds (processes * room) (lines processes (rowAt rows)) (now (out .entry)) (now (out .exit)) at r ⌝ }
+    ensures { λ r. ⌜ Adds (processes * room) (lines processes (name (countIn births)) (rowAt rows)) (now (out .entry)) (now (out .exit)) at r ⌝ }
 {
     let mut end = at;
     let mut i = 0;
     while i < PROCESSES {
-        end = lay_row(out, end, i as u8, rows[i]);
+        end = lay_row(out, end, births, i as u8, rows[i]);
         i += 1;
     }
     end
 }
 
-pub(crate) fn lay_page(out: &mut [u8], rows: [Row; PROCESSES]) -> usize
+pub(crate) fn lay_page(out: &mut [u8], births: [u8; PROCESSES], rows: [Row; PROCESSES]) -> usize
     requires { ⌜ pageRoom ≤ length (now out) ⌝ }
-    ensures { λ r. ⌜ Adds pageRoom (page (rowAt rows)) (now (out .entry)) (now (out .exit)) 0 r ⌝ }
+    ensures { λ r. ⌜ Adds pageRoom (page (name (countIn births)) (rowAt rows)) (now (out .entry)) (now (out .exit)) 0 r ⌝ }
 {
     let top = lay(out, 0, header());
-    let end = lay_rows(out, top, rows);
+    let end = lay_rows(out, top, births, rows);
     lay(out, end, unused_line(unused_in(rows)))
 }

@@ -5,6 +5,8 @@ ghost use Prim.Native.Nat.{_-_};
 ghost use lib.ListN.{replicate};
 ghost use Rattle.answers.specs.Answer.{decimal};
 ghost use Rattle.answers.specs.Ascii.{space};
+ghost use Rattle.names.specs.Counts.{countIn};
+ghost use Rattle.plain.specs.Names.{name};
 ghost use Rattle.wording.specs.Promises.{soFar, more};
 ghost use Rattle.wording.specs.Page.{cell, order, queued, stands, bytes, inHand, rowLine};
 use crate::phrase::Phrase;
@@ -14,11 +16,14 @@ use crate::phrase::say;
 use crate::phrase::say_decimal;
 use crate::phrase::say_number;
 use crate::phrase::used;
+use names::name_of;
 use rows::AT_MAILBOX;
 use rows::AT_SEMAPHORE;
 use rows::READY;
 use rows::RUNNING;
 use rows::Row;
+use sizes::PROCESSES;
+use sizes::Pid;
 
 fn say_order(t: Phrase, n: u8) -> Phrase
     ensures { λ r. ⌜ soFar r ≡ more (soFar t) (order n) ⌝ }
@@ -104,11 +109,19 @@ fn say_place_cell(t: Phrase, row: Row, width: usize) -> Phrase
     say_cell(t, say_stands(nothing(), row), width)
 }
 
-pub(crate) fn row_line(process: u8, row: Row) -> Phrase
-    ensures { λ r. ⌜ soFar r ≡ rowLine process row ⌝ }
+fn say_name_cell(t: Phrase, births: [u8; PROCESSES], p: Pid, width: usize) -> Phrase
+    ensures { λ r. ⌜ soFar r ≡ more (soFar t) (cell width (decimal (name (countIn births) (p .0)))) ⌝ }
+{
+    let n = name_of(births, p);
+    say_cell(t, say_decimal(nothing(), n), width)
+}
+
+pub(crate) fn row_line(births: [u8; PROCESSES], process: u8, row: Row) -> Phrase
+    ensures { λ r. ⌜ soFar r ≡ rowLine (name (countIn births)) process row ⌝ }
 {
     let who = say_number_cell(nothing(), process, 9);
-    let place = say_place_cell(who, row, 30);
+    let named = say_name_cell(who, births, Pid(process), 7);
+    let place = say_place_cell(named, row, 30);
     let class = say_number_cell(place, row.class, 7);
     let ticks = say_number_cell(class, row.ticks, 12);
     say(say_hand(ticks, row), b"\n")

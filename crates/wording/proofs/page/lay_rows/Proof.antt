@@ -1,10 +1,12 @@
 -- `wording::page::lay_rows` meets its contract. The loop's invariant: the lines of the first `i` processes stand behind what was there.
 -- Assumes nothing.
-use Prim.Native.Nat.{ℕ, _*_, _-_, _≤_}
-use mathlib.Core.Path.{_≡_, refl, ap, _∙_}
+use Prim.Native.Nat.{_*_, _-_, _≤_}
+use mathlib.Core.Path.{_≡_, refl}
 use native.Mathlib.Omega.{arith}
 use lib.ListN.{length}
 use borrow.Author.Needs.{needs}
+use Rattle.names.specs.Counts.{countIn}
+use Rattle.plain.specs.Names.{name}
 use Rattle.plain.specs.Sizes.{processes}
 use Rattle.wording.specs.Page.{lines, rowAt}
 use Rattle.wording.specs.Promises.{room, Adds}
@@ -14,10 +16,10 @@ use Rattle.wording.proofs.page.lay_rows.Statement.{statement}
 use Rattle.wording.proofs.page.lay_rows.Tie as tie
 
 abbrev Inv-loop : tie.InvT-loop
-Inv-loop out₀ at rows end₀ i₀ out end i = (i ≤ processes) × (length out ≡ length out₀) × Adds (i * room) (lines i (rowAt rows)) out₀ out at end
+Inv-loop out₀ at births rows end₀ i₀ out end i = (i ≤ processes) × (length out ≡ length out₀) × Adds (i * room) (lines i (name (countIn births)) (rowAt rows)) out₀ out at end
 
 abbrev μ-loop : tie.MeasureT-loop
-μ-loop out₀ at rows end₀ i₀ out end i = processes - i
+μ-loop out₀ at births rows end₀ i₀ out end i = processes - i
 
 loop-holds : tie.Need-loop-holds Inv-loop μ-loop
 unfolding lines
@@ -31,10 +33,10 @@ lay-row-requires c κs =
 
 loop-again : tie.Need-loop-again Inv-loop μ-loop
 loop-again c =
-    let rows = c .before .before .before .before .before .before .before .before .args .t3 in
+    let s = c .before .before .before .before .before .before .before .before .args in
     let l = c .before .before .before .before .before .before .loop in
     let next = adds-more (l .inv .2) (c .before .before .lay-row .ensures) in
-    (omega arith, omega arith, rw (lines-next (rowAt rows) (l .i)) (record { short = omega (arith, next .short); ends = next .ends; text = next .text }))
+    (omega arith, omega arith, rw (lines-next (name (countIn (s .births))) (rowAt (s .t4)) (l .i)) (record { short = omega (arith, next .short); ends = next .ends; text = next .text }))
 
 same-length : tie.Need-same-length Inv-loop μ-loop
 same-length c = c .before .loop .inv .1
