@@ -8,13 +8,14 @@ use Rattle.kernel.proofs.Verdicts.{judged-create}
 use Rattle.kernel.specs.Judged.{answered}
 use Rattle.names.proofs.Laws.{counts-are}
 use Rattle.plain.specs.Calls as Plain
+use Rattle.plain.specs.Names.{name}
 use Rattle.plain.specs.State.{freeProcess}
 use Rattle.plain_laws.proofs.Calls.{next-process}
 use Rattle.procs.proofs.Looks.{lowest-unused}
 use borrow.Author.Needs.{needs}
 use borrow.Author.Tests.{leb-false}
 use mathlib.Core.List.{[]}
-use mathlib.Core.Path.{_≡_, refl, ap, _∙_}
+use mathlib.Core.Path.{_≡_, ap, _∙_}
 use native.Mathlib.Omega.{arith}
 
 returns : tie.Need-returns
@@ -28,7 +29,7 @@ returns-2 c = accepted-plainly (Plain.create _) (c .before .before .before .befo
     let e : c .before .before .before .before .before .before .before .lowest-unused .result % 32 ≡ p = omega (arith, fr .1, c .before .before .before .before .before .before .before .lowest-unused .ensures ∙ lowest-unused (H .procs)) in
     let low = leb-false _ _ (x .0) in
     let N = created-holds H S p (c .before .before .before .before .before .before .before .before .before .before .args .class) (c .before .before .before .before .before .before .before .before .before .facts .ensures .slice) e (omega (arith, low)) (fr .2) (fr .0) (fr .1) low (c .before .before .before .created .ensures) in
-    gives 0 _ [] _ (c .answer .ensures ∙ ap (answered _ 0) (c .before .name-of .ensures ∙ rw (e, counts-are (N .births)) refl)) N)
+    gives 0 _ [] _ (c .answer .ensures ∙ ap (answered _ 0) (c .before .name-of .ensures ∙ (λ i. name (counts-are (N .births) i) (e i)))) N)
 
 pub create-spec : {M : Type 1} → statement M
 create-spec = tie.close (tie.spec (λ c κs. search needs) (λ c κs. search needs) (λ c κs. search needs) (λ c κs. search needs) returns (λ c. search needs) (λ c. search needs) (λ c κs. search needs) (λ c. search needs) (λ c κs. search needs) (λ c κs. search needs) returns-2)
