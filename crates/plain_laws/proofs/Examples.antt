@@ -1,15 +1,18 @@
 -- The counts of the theorems at work: each example is computed, and each count in it is met.
 -- Assumes nothing.
 use Prim.Native.Nat.{ℕ}
+use mathlib.Core.Bool.{true}
 use mathlib.Core.Path.{_≡_, refl}
 use mathlib.Core.List.{List, [], _∷_}
 use Rattle.lists.specs.Lists.{total, lowest}
 use Rattle.plain.specs.Sizes.{capacity, bufferSize, longest}
 use Rattle.plain.specs.State.{State, start, spots, held, freeProcess, freeBuffer}
+use Rattle.plain.specs.Names.{raised, name, bare, names}
 use Rattle.plain.specs.Runs.{choose, chooseBelow, join, standDown, makeReady, goTo, remove, halt}
-use Rattle.plain.specs.Calls.{Call, create, end, tick, send, receive, perform, refusals, step, after}
+use Rattle.plain.specs.Calls.{Call, create, stop, end, tick, send, receive, perform, refusals, step, after}
 use Rattle.plain.specs.Start.{sliceOf}
-use Rattle.plain_laws.specs.History.{sent, gone, countAhead, moments, ticksSeen, turnsBefore}
+use Rattle.plain_laws.specs.Names.{bornIn, stoppedIn}
+use Rattle.plain_laws.specs.History.{isDone, sent, gone, countAhead, moments, ticksSeen, turnsBefore}
 
 -- the state that calls lead to from fresh, with 3 ticks to a slice
 abbrev tuned : State
@@ -17,7 +20,7 @@ tuned = start (sliceOf 3)
 
 -- the state that calls lead to from there
 unfoldable reached : List Call → State
-unfolding after step refusals perform choose chooseBelow join standDown makeReady goTo remove halt spots total lowest held freeProcess freeBuffer capacity bufferSize longest
+unfolding after step refusals perform raised name bare names choose chooseBelow join standDown makeReady goTo remove halt spots total lowest held freeProcess freeBuffer capacity bufferSize longest
 reached cs = after tuned cs
 
 -- 2 is ready behind 1, who runs: one ahead. It sees three ticks before it runs, as many as the bound allows, and 1 has two more turns.
@@ -46,3 +49,11 @@ posted = create 1 ∷ receive 0 ∷ send 0 [] ∷ send 0 [] ∷ send 0 [] ∷ cr
 messages-counted : (sent 0 tuned posted ≡ 3) × (gone 0 tuned posted ≡ 2)
 unfolding reached posted sent gone
 messages-counted = (refl, refl)
+
+-- 1 is born, stopped and born again, and then ends: what the fate of its first name goes by. The create that is asked about is accepted.
+again : List Call
+again = create 1 ∷ stop 257 ∷ create 1 ∷ end ∷ []
+
+births-counted : (bornIn 1 (moments tuned again) ≡ 2) × (stoppedIn 1 (moments tuned again) ≡ 2) × (isDone (step tuned (create 1)) ≡ true) × (step tuned (create 1) .answer .number ≡ 257)
+unfolding reached again moments bornIn stoppedIn
+births-counted = (refl, refl, refl, refl)

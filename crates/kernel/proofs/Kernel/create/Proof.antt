@@ -32,4 +32,4 @@ returns-2 c = accepted-plainly (Plain.create _) (c .before .before .before .befo
     gives 0 _ [] _ (c .answer .ensures ∙ ap (answered _ 0) (c .before .name-of .ensures ∙ (λ i. name (counts-are (N .births) i) (e i)))) N)
 
 pub create-spec : {M : Type 1} → statement M
-create-spec = tie.close (tie.spec (λ c κs. search needs) (λ c κs. search needs) (λ c κs. search needs) (λ c κs. search needs) returns (λ c. search needs) (λ c. search needs) (λ c κs. search needs) (λ c. search needs) (λ c κs. search needs) (λ c κs. search needs) returns-2)
+create-spec = tie.close (tie.spec (λ c κs. search needs) (λ c κs. search needs) (λ c κs. search needs) (λ c κs. search needs) returns (λ c. search needs) (λ c. search needs) (λ c κs. search needs) (λ c κs. search needs) (λ c κs. search needs) returns-2)
