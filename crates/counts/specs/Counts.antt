@@ -1,17 +1,15 @@
 -- When an array holds the semaphores' counts, and what it becomes at a signal and at a wait that passes.
 -- Assumes nothing.
 use Prim.Native.Nat.{ℕ, _+_, _-_}
-use mathlib.Core.Path.{_≡_}
 use mathlib.Core.Bool.{Bool, _||_}
 use mathlib.Core.List.{List}
 use lib.Dec.{leb}
-use lib.ListN.{length, getD, set}
-use Rattle.lists.specs.Lists.{if_then_else_}
+use lib.ListN.{getD, set}
+use Rattle.lists.specs.Lists.{if_then_else_, Entries}
 use Rattle.plain.specs.Sizes.{semaphores, highestCount}
 
-pub record Counted (t : List ℕ) (count : ℕ → ℕ) : Type 0 where
-  pub long : length t ≡ semaphores
-  pub each : (i : ℕ) → getD t i 0 ≡ count i
+abbrev pub Counted : List ℕ → (ℕ → ℕ) → Type 0
+Counted = Entries semaphores
 
 -- "with no waiter the count goes up by 1"; the highest count stays
 unfoldable pub signalled : List ℕ → ℕ → Bool → List ℕ

@@ -20,8 +20,7 @@ use Rattle.procs.proofs.Kept.{fresh-kept}
 use Rattle.procs.specs.Moves as Procs
 use Rattle.mail.proofs.Moves.{fresh-carries}
 use Rattle.mail.specs.Moves as Mail
-use Rattle.counts.proofs.Laws.{fresh-counted}
-use Rattle.names.proofs.Laws as Names
+use Rattle.lists.proofs.Laws.{zero-entries}
 use Rattle.kernel.specs.Holds.{named, Holds}
 use Rattle.kernel.specs.Judged.{answered, refusedWith, Made}
 use Rattle.kernel.specs.Promise.{Starts}
@@ -32,7 +31,7 @@ use Rattle.kernel.proofs.Changes.{made-holds}
 use Rattle.kernel.proofs.Judging.{runner-is, gives}
 
 pub fresh-holds : {k : Kernel} {x : Settings} → Made k Procs.fresh Mail.freshMail (replicate semaphores 0) (replicate processes 0) x → Holds k (start (named x))
-fresh-holds M = made-holds M fresh-kept fresh-carries fresh-counted Names.fresh-kept refl
+fresh-holds M = made-holds M fresh-kept fresh-carries (zero-entries semaphores) (zero-entries processes) refl
 
 start-proper : (x : State.Settings) → Proper (startRefusals x)
 start-proper x = omega arith

@@ -6,10 +6,11 @@ use mathlib.Core.Bool.{Bool, true, false, _||_, true≢false}
 use mathlib.Core.Logic.{_≢_, _⊎_, inl, inr, ⊎-elim}
 use mathlib.Core.List.{List, [], _∷_, _++_}
 use native.Mathlib.Omega.{arith}
-use lib.ListN.{length, getD, replicate}
+use lib.ListN.{length, getD, set, replicate, length-set, length-replicate}
+use lib.Seq.{getD-set-same, getD-set-other, ext-getD}
 use lib.Dec.{leb, eqb}
 use borrow.Author.Tests.{leb-true, leb-false, eqb-true, eqb-false, eq-eqb, ne-eqb}
-use Rattle.lists.specs.Lists.{if_then_else_, put, one, total, occurs, without, ahead, lowest}
+use Rattle.lists.specs.Lists.{if_then_else_, put, one, total, occurs, without, ahead, lowest, Entries}
 
 -- a test has two outcomes, and each is known as an equation
 pub either : (t : Bool) → (t ≡ true) ⊎ (t ≡ false)
@@ -247,3 +248,19 @@ pub zeros : (n p : ℕ) → _≡_ {A = ℕ} (getD (replicate n 0) p 0) 0
 zeros zero p = refl
 zeros (suc n) zero = refl
 zeros (suc n) (suc p) = zeros n p
+
+-- ---- arrays with the entries of a function
+
+pub zero-entries : (n : ℕ) → Entries n (replicate n 0) (λ i. 0)
+zero-entries n = record { long = length-replicate n 0; each = zeros n }
+
+module _ {n : ℕ} {t : List ℕ} {f : ℕ → ℕ} (E : Entries n t f) where
+  -- the same entries are the same array
+  pub one-array : {t′ : List ℕ} → Entries n t′ f → t ≡ t′
+  one-array {t′} E′ = ext-getD 0 t t′ (E .long ∙ sym (E′ .long)) (λ i h. E .each i ∙ sym (E′ .each i))
+
+  pub set-entries : (i v : ℕ) → i < n → Entries n (set t i v) (put f i v)
+  set-entries i v h = record {
+    long = length-set t i v ∙ E .long;
+    each = λ j. put-cases (λ (a : ℕ). getD (set t i v) j 0 ≡ a) f i v j (λ e. rw e (getD-set-same t i v 0 (omega (arith, E .long)))) (λ d. getD-set-other t i j v 0 d ∙ E .each j);
+  }

@@ -3,7 +3,9 @@
 use Prim.Native.Nat.{ℕ, zero, suc, _+_}
 use mathlib.Core.Bool.{Bool, true, false}
 use mathlib.Core.List.{List, [], _∷_}
+use mathlib.Core.Path.{_≡_}
 use lib.Dec.{eqb}
+use lib.ListN.{length, getD}
 
 infix 10 if_then_else_
 abbrev pub if_then_else_ {ℓ} : {A : Type ℓ} → Bool → A → A → A
@@ -47,3 +49,8 @@ ahead p (x ∷ l) = if eqb x p then 0 else suc (ahead p l)
 unfoldable pub lowest : ℕ → ℕ → (ℕ → Bool) → ℕ
 lowest i zero t = i
 lowest i (suc n) t = if t i then i else lowest (suc i) n t
+
+-- an array of n entries has those of f, which is 0 behind them
+pub record Entries (n : ℕ) (t : List ℕ) (f : ℕ → ℕ) : Type 0 where
+  pub long : length t ≡ n
+  pub each : (i : ℕ) → getD t i 0 ≡ f i

@@ -2,8 +2,8 @@
 -- Assumes nothing.
 use Prim.Native.Nat.{ℕ}
 use mathlib.Core.List.{List}
-use mathlib.Core.Path.{_≡_}
-use lib.ListN.{length, getD, set}
+use lib.ListN.{getD, set}
+use Rattle.lists.specs.Lists.{Entries}
 use Rattle.plain.specs.Names.{raised}
 use Rattle.plain.specs.Sizes.{processes}
 
@@ -11,9 +11,8 @@ use Rattle.plain.specs.Sizes.{processes}
 abbrev pub countIn : List ℕ → ℕ → ℕ
 countIn t p = getD t p 0
 
-pub record Kept (t : List ℕ) (births : ℕ → ℕ) : Type 0 where
-  pub long : length t ≡ processes
-  pub each : (p : ℕ) → countIn t p ≡ births p
+abbrev pub Kept : List ℕ → (ℕ → ℕ) → Type 0
+Kept = Entries processes
 
 -- "raised by 1 at each create of it, from 255 back to 0"
 unfoldable pub born : List ℕ → ℕ → List ℕ

@@ -16,7 +16,7 @@ use Rattle.plain.specs.Calls.{Call, create, stop, Outcome, on, done, refused, s
 use Rattle.plain.specs.Sound.{Used, Sound}
 use Rattle.plain.specs.Why as Why
 use Rattle.plain_laws.specs.History.{Passed, as-one, isDone, isRefusal, moments}
-use Rattle.plain_laws.specs.Names.{bornIn, stoppedIn, Taken, noSuch, Fate}
+use Rattle.plain_laws.specs.Names.{bornIn, stoppedIn, Taken, unknown, Fate}
 use Rattle.plain_laws.proofs.Names.{bare-name, named, is-named}
 use Rattle.plain_laws.proofs.Calls.{accepted, next-process}
 use Rattle.plain_laws.proofs.Frames.{slice-some, arrived}
@@ -67,11 +67,11 @@ module _ (s : State) (k : Sound s) (n p : ℕ) (h : 1 ≤ p) (h′ : p < process
   }
 
   -- an unused number is not stopped, and is told to be unused where the count is its last
-  unused-stop : unused (s .procs) p ≡ true → step s (stop n) ≡ noSuch s
+  unused-stop : unused (s .procs) p ≡ true → step s (stop n) ≡ unknown s
   unfolding step refusals
   unused-stop u = rw (is, ne-eqb p 0 (omega arith), u) (go (names (s .births) n))
     where
-      go : (t : Bool) → (if not t || true then noSuch s else perform s (stop n)) ≡ noSuch s
+      go : (t : Bool) → (if not t || true then unknown s else perform s (stop n)) ≡ unknown s
       go true = refl
       go false = refl
 
@@ -80,11 +80,11 @@ module _ (s : State) (k : Sound s) (n p : ℕ) (h : 1 ≤ p) (h′ : p < process
   unused-told e z = rw (e, is) (refl, sym (only s k p Why.unused (omega arith, z)))
 
   -- another count is refused
-  other-stop : names (s .births) n ≡ false → step s (stop n) ≡ noSuch s
+  other-stop : names (s .births) n ≡ false → step s (stop n) ≡ unknown s
   unfolding step refusals
   other-stop e = rw (is, ne-eqb p 0 (omega arith), e) refl
 
-  other-why : names (s .births) n ≡ false → Why.why s n ≡ noSuch s
+  other-why : names (s .births) n ≡ false → Why.why s n ≡ unknown s
   unfolding Why.why
   other-why e = rw e refl
 
@@ -133,7 +133,7 @@ module _ (s : State) (k : Sound s) (n p : ℕ) (h : 1 ≤ p) (h′ : p < process
       (λ u. taken t K n p h h′ is (same-name (omega (arith, count, balanced, u .1, k .births .most p))) (u .0) (u .2))
       (used? (t .procs) p)
 
-  stale : 1 ≤ stops → born < rounds → step t (stop n) ≡ noSuch t
+  stale : 1 ≤ stops → born < rounds → step t (stop n) ≡ unknown t
   stale some few = ⊎-elim
       (λ (z : born ≡ 0). ⊎-elim (λ u. unused-stop t K n p h h′ is (u .0)) (λ u. absurd (omega (arith, balanced, u .1))) (used? (t .procs) p))
       (λ (z : born ≢ 0). other-stop t K n p h h′ is (other-name (omega arith) few))

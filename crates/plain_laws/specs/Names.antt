@@ -40,8 +40,8 @@ pub record Taken (s : State) (n p : ℕ) : Type 0 where
   pub why : Why.why s n ≡ done 0 s
   pub told : Why.told s n ≡ Why.reason s p
 
-abbrev pub noSuch : State → Outcome
-noSuch s = refused (on 1 true) s
+abbrev pub unknown : State → Outcome
+unknown s = refused (on 1 true) s
 
 -- In s a create is accepted, which answers n; p is the number in it, `ms` what happens then, and t the state that this leads to.
 pub record Fate (s : State) (n p : ℕ) (ms : List Moment) (t : State) : Type 0 where
@@ -50,9 +50,9 @@ pub record Fate (s : State) (n p : ℕ) (ms : List Moment) (t : State) : Type 0 
   -- it names that process until it is stopped, whatever is called
   pub lives : stoppedIn p ms ≡ 0 → Taken t n p
   -- after that it is refused until its number has been born 256 times more
-  pub stale : 1 ≤ stoppedIn p ms → bornIn p ms < rounds → step t (stop n) ≡ noSuch t
+  pub stale : 1 ≤ stoppedIn p ms → bornIn p ms < rounds → step t (stop n) ≡ unknown t
   -- and so by `why`, which till the next birth says of the last who had it that it is unused
-  pub unasked : 1 ≤ bornIn p ms → bornIn p ms < rounds → Why.why t n ≡ noSuch t
+  pub unasked : 1 ≤ bornIn p ms → bornIn p ms < rounds → Why.why t n ≡ unknown t
   pub last : 1 ≤ stoppedIn p ms → bornIn p ms ≡ 0 → (Why.why t n ≡ done 0 t) × (Why.told t n ≡ Why.unused)
   -- "A name returns after 256 births"
   pub returns : bornIn p ms ≡ rounds → Used (t .procs) p → Taken t n p
