@@ -2,7 +2,7 @@
 -- Assumes nothing.
 use Prim.Native.Nat.{ℕ, suc, _+_, _-_, _/_, _%_, _≤_, _<_}
 use mathlib.Core.Bool.{Bool, true, false}
-use mathlib.Core.Path.{_≡_, refl, sym, _∙_}
+use mathlib.Core.Path.{_≡_, refl, sym, subst, _∙_}
 use mathlib.Core.List.{List, [], _∷_, _++_, append-assoc, append-nil}
 use native.Mathlib.Omega.{arith}
 use native.Mathlib.Numerals.{add-one}
@@ -53,6 +53,14 @@ module _ (o s : List ℕ) (i at : ℕ) (inside : i < length s) (even : at ≡ i 
       rw (laid-more p o at h long (omega arith), laid-more (p ++ (h ∷ [])) o (at + 1) l (simp length-append (omega arith)) (omega arith), one-more o s i inside, pairs-append (take i s) (getD s i 0 ∷ [])) (simp append-assoc)
 
 -- ---- what is written, by the text and the area
+
+-- a text that is known otherwise
+pub written-as : {n : ℕ} {l l′ old new : List ℕ} → l ≡ l′ → Written l old new n → Written l′ old new n
+written-as {n} {l} {l′} {old} {new} e w = subst (λ (x : List ℕ). Written x old new n) e w
+
+-- one text leaves one area
+pub one-written : {n n′ : ℕ} {l l′ old new new′ : List ℕ} → l ≡ l′ → Written l old new n → Written l′ old new′ n′ → (n ≡ n′) × (new ≡ new′)
+one-written e a b = let w = written-as (sym e) b in (a .counted ∙ sym (w .counted), a .content ∙ sym (w .content))
 
 pub written-fits : (l o new : List ℕ) (n : ℕ) → Written l o new n → length l ≤ length o → new ≡ laid l o
 written-fits l o new n w h = rw (le-leb (length l) (length o) h) at (w .content)

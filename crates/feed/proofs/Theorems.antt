@@ -9,8 +9,7 @@ use lib.ListN.{length, take, replicate, length-replicate}
 use lib.Seq.{length-take-le}
 use Rattle.lists.proofs.Laws.{le?}
 use Rattle.script.specs.Grammar.{longestLine}
-use Rattle.answers.specs.Written.{Written}
-use Rattle.answers.proofs.AreaLaws.{written-whole}
+use Rattle.answers.proofs.AreaLaws.{written-whole, one-written}
 use Rattle.desk.specs.declared.Desk.{Desk}
 use Rattle.desk.proofs.Theorems.{one-desk, scripts}
 use Rattle.feed.specs.Cut.{ending, pending, linesOf, withNewlines}
@@ -36,11 +35,6 @@ one-fresh o₁ o₂ a b =
     let desk = one-desk _ _ _ (a .desk) (b .desk) in
     let held = a .held ∙ sym (b .held) in
     λ i. record { desk = desk i; held = held i }
-
-one-written : {w₁ w₂ old new₁ new₂ : List ℕ} {n₁ n₂ : ℕ} → w₁ ≡ w₂ → Written w₁ old new₁ n₁ → Written w₂ old new₂ n₂ → (n₁ ≡ n₂) × (new₁ ≡ new₂)
-one-written {old = old} {new₂ = new₂} {n₂ = n₂} e a b =
-    let w = subst (λ (t : List ℕ). Written t old new₂ n₂) (sym e) b in
-    (a .counted ∙ sym (w .counted), a .content ∙ sym (w .content))
 
 one-held : {p₁ p₂ line₁ line₂ : List ℕ} {n₁ n₂ : ℕ} → p₁ ≡ p₂ → n₁ ≤ overLong → n₂ ≤ overLong → HoldsLine p₁ line₁ n₁ → HoldsLine p₂ line₂ n₂ → n₁ ≡ n₂
 one-held e small₁ small₂ (whole short₁ counted₁ content₁) (whole short₂ counted₂ content₂) = counted₁ ∙ ap length e ∙ sym counted₂

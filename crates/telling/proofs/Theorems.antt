@@ -3,13 +3,12 @@
 use Prim.Native.Nat.{ℕ}
 use mathlib.Core.Bool.{Bool, true, false}
 use mathlib.Core.List.{List}
-use mathlib.Core.Path.{_≡_, refl, sym, subst, _∙_}
+use mathlib.Core.Path.{refl}
 use native.Mathlib.Omega.{arith}
 use lib.Dec.{eqb}
 use lib.ListN.{length}
 use Rattle.lists.specs.Lists.{if_then_else_}
-use Rattle.answers.specs.Written.{Written}
-use Rattle.answers.proofs.AreaLaws.{written-whole}
+use Rattle.answers.proofs.AreaLaws.{written-whole, one-written}
 use Rattle.telling.specs.Theorems.{Same, One, OneTold, OneFault, TextFits}
 use Rattle.telling.specs.Promise.{noState, Refused, refused, OfInput}
 
@@ -27,9 +26,8 @@ one-of-input area Is one good₁ good₂ text₁ text₂ a b = go (eqb (length a
 pub one-told : OneTold
 one-told Is one room old new new′ r r′ a b =
     let e = one (r .good) (r′ .good) (a .text) (b .text) (a .is) (b .is) in
-    let w = subst (λ (t : List ℕ). Written t old new′ (r′ .length)) (sym (e .text)) (b .written) in
-    let count = a .written .counted ∙ sym (w .counted) in
-    ((λ i. record { good = e .good i; length = count i }), a .written .content ∙ sym (w .content))
+    let written = one-written (e .text) (a .written) (b .written) in
+    ((λ i. record { good = e .good i; length = written .0 i }), written .1)
 
 pub text-fits : TextFits
 text-fits Is room old new r g h = written-whole (g .written) (omega (arith, g .short))

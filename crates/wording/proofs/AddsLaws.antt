@@ -18,9 +18,6 @@ adds-none o at = record { short = omega arith; ends = omega arith; text = sym (a
 pub adds-as : {span at next : ℕ} {l l′ old new : List ℕ} → l ≡ l′ → Adds span l old new at next → Adds span l′ old new at next
 adds-as {span} {at} {next} {l} {l′} {old} {new} e a = subst (λ (x : List ℕ). Adds span x old new at next) e a
 
-pub written-as : {n : ℕ} {l l′ old new : List ℕ} → l ≡ l′ → Written l old new n → Written l′ old new n
-written-as {n} {l} {l′} {old} {new} e w = subst (λ (x : List ℕ). Written x old new n) e w
-
 pub adds-more : {span more : ℕ} {a b old mid new : List ℕ} {at here next : ℕ} → Adds span a old mid at here → Adds more b mid new here next → Adds (span + more) (a ++ b) old new at next
 adds-more {a} {b} {old} {at} f g = record {
   short = rw (length-append a b) (omega (arith, f .short, g .short));

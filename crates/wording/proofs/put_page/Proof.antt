@@ -4,7 +4,7 @@ use mathlib.Core.Path.{sym}
 use native.Mathlib.Omega.{arith}
 use lib.Seq.{length-take-le}
 use borrow.Author.Needs.{needs}
-use Rattle.wording.proofs.AddsLaws.{written-as}
+use Rattle.answers.proofs.AreaLaws.{written-as}
 use Rattle.wording.proofs.put_page.Statement.{statement}
 use Rattle.wording.proofs.put_page.Tie as tie
 
