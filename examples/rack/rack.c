@@ -65,7 +65,7 @@ static uint8_t peak;
 
 typedef void (*step)(void);
 static step steps[CSENGADRUL_PROCESSES]; /* by number, as the kernel says who runs */
-static uint32_t printer;       /* its name, which no later process of its number has; 0 while it is stopped */
+static uint32_t printer;       /* its name, not that of the next process of its number; 0 while it is stopped */
 static unsigned stopped_since; /* the turn */
 
 static void fail(const char *what, const char *why) {

@@ -308,7 +308,7 @@ mod tests {
             "create 1, create 1, stop 258, create 1, stop 258, why 258, why 514, stop 514, stop 514, why 514, why 258",
             "0 257 1, 0 258 1, 0 0 1, 0 514 1, 1 0 1, 1 0 1, 0 0 1 ready 1, 0 0 1, 1 0 1, 0 0 1 unused, 1 0 1",
         );
-        // A number alone is a name only before it is born.
+        // A number alone is a name while its birth count is 0: before it is born.
         answers(
             "why 1, stop 1, create 1, why 1, stop 1, end, why 1, stop 1, why 257",
             "0 0 0 unused, 1 0 0, 0 257 1, 1 0 1, 1 0 1, 0 0 0, 1 0 0, 1 0 0, 0 0 0 unused",
