@@ -11,7 +11,8 @@ static int is_sound(const struct kernel *k);
 /* Copies a field between the image and the struct; x86-64 has the lowest byte first, as the image. */
 #define EACH_FIELD(copy) \
     copy(running) copy(class_of) copy(ticks) copy(next) copy(before) copy(ready) copy(unused) copy(box_next) \
-    copy(box_before) copy(hand) copy(full) copy(length) copy(free) copy(count) copy(births) copy(slice)
+    copy(box_before) copy(hand) copy(full) copy(length) copy(free) copy(count) copy(births) copy(slice) \
+    copy(capacity) copy(mode)
 #define FROM_IMAGE(field) memcpy(&k->field, state, sizeof k->field); state += sizeof k->field;
 #define TO_IMAGE(field) memcpy(state, &k->field, sizeof k->field); state += sizeof k->field;
 
@@ -81,6 +82,10 @@ csengadrul_answer csengadrul_class(uint8_t *state, size_t length, uint32_t class
 
 csengadrul_answer csengadrul_tick(uint8_t *state, size_t length) {
     CALL(kernel_tick(&k))
+}
+
+csengadrul_answer csengadrul_mailbox(uint8_t *state, size_t length, uint32_t mailbox, uint32_t capacity, uint32_t mode) {
+    CALL(kernel_mailbox(&k, mailbox, capacity, mode))
 }
 
 csengadrul_answer csengadrul_send(uint8_t *state, size_t length, uint8_t *store, size_t store_length, uint32_t mailbox,

@@ -45,7 +45,7 @@ static int block_sound(const struct kernel *k, unsigned p, uint8_t place) {
 static int processes_sound(const struct kernel *k, uint8_t place[32]) {
     unsigned p, c;
     uint32_t ready = 0;
-    if (k->slice == 0 || k->births[0] || k->running >= CSENGADRUL_PROCESSES || k->unused & 1) return 0;
+    if (k->births[0] || k->running >= CSENGADRUL_PROCESSES || k->unused & 1) return 0;
     if (!are_rings(k->next, k->before, PROCESS_NODES) || !find_places(k->next, PROCESS_NODES - 32, place)) return 0;
     for (p = 0; p < CSENGADRUL_PROCESSES; p++)
         if (!block_sound(k, p, place[p])) return 0;
@@ -87,7 +87,7 @@ static int mail_sound(const struct kernel *k, const uint8_t place[32]) {
         int free = k->free >> b & 1, is_queued = box[b] != NOWHERE, is_held = held >> b & 1;
         if (free + is_queued + is_held != 1) return 0;
         if (k->length[b] > (free ? 0 : CSENGADRUL_MESSAGE_SIZE)) return 0;
-        if (is_queued && ++queued[box[b] - BOX_HEAD] > CSENGADRUL_MAILBOX_SIZE) return 0;
+        if (is_queued && ++queued[box[b] - BOX_HEAD] > k->capacity[box[b] - BOX_HEAD]) return 0;
     }
     for (m = 0; m < CSENGADRUL_MAILBOXES; m++)
         if (queued[m] && k->next[MAILBOX_HEAD + m] != MAILBOX_HEAD + m) return 0;
@@ -101,7 +101,15 @@ static int counts_sound(const struct kernel *k) {
     return 1;
 }
 
+static int settings_sound(const struct kernel *k) {
+    unsigned m;
+    if (k->slice == 0) return 0;
+    for (m = 0; m < CSENGADRUL_MAILBOXES; m++)
+        if (k->capacity[m] < 1 || k->capacity[m] > CSENGADRUL_LARGEST_CAPACITY || k->mode[m] > CSENGADRUL_DROPS) return 0;
+    return 1;
+}
+
 static int is_sound(const struct kernel *k) {
     uint8_t place[32];
-    return processes_sound(k, place) && mail_sound(k, place) && counts_sound(k);
+    return settings_sound(k) && processes_sound(k, place) && mail_sound(k, place) && counts_sound(k);
 }

@@ -92,19 +92,19 @@ static inline int processes_sound(const struct kernel *k, uint8_t at[MEMBERS]) {
 }
 
 /* Whether a mailbox holds more than its capacity. */
-static inline int is_crowded(const uint8_t next[BUFFER_NODES], unsigned mailbox) {
+static inline int is_crowded(const uint8_t next[BUFFER_NODES], unsigned mailbox, unsigned capacity) {
     unsigned steps, b = next[BOX_HEAD + mailbox];
-    for (steps = 0; steps <= CSENGADRUL_MAILBOX_SIZE; steps++) {
+    for (steps = 0; steps <= capacity; steps++) {
         if (b >= CSENGADRUL_BUFFERS) return 0;
         b = next[b];
     }
     return 1;
 }
 
-static inline int boxes_fit(const uint8_t next[BUFFER_NODES]) {
+static inline int boxes_fit(const struct kernel *k) {
     unsigned m;
     for (m = 0; m < CSENGADRUL_MAILBOXES; m++)
-        if (is_crowded(next, m)) return 0;
+        if (is_crowded(k->box_next, m, k->capacity[m])) return 0;
     return 1;
 }
 
@@ -137,7 +137,7 @@ static inline int buffers_fit(const struct kernel *k, const uint8_t at[MEMBERS])
 static inline int mail_sound(const struct kernel *k) {
     uint8_t at[MEMBERS];
     if (!find_places(k->box_next, k->box_before, BUFFER_NODES, at)) return 0;
-    return boxes_fit(k->box_next) && hands_fit(k->hand, k->full, at) && buffers_fit(k, at);
+    return boxes_fit(k) && hands_fit(k->hand, k->full, at) && buffers_fit(k, at);
 }
 
 /* Whether a process may have a full hand: one that runs, is ready or waits at a semaphore. */
@@ -162,7 +162,19 @@ static inline int waits_fit(const struct kernel *k, const uint8_t at[MEMBERS]) {
     return 1;
 }
 
+/* Whether a mailbox may have this capacity and this mode. */
+static inline uint8_t may_be_set(uint8_t capacity, uint8_t mode) {
+    return capacity >= 1 && capacity <= CSENGADRUL_LARGEST_CAPACITY && mode <= CSENGADRUL_DROPS;
+}
+
+static inline int settings_fit(const struct kernel *k) {
+    uint8_t wrong = k->slice == 0;
+    unsigned m;
+    for (m = 0; m < CSENGADRUL_MAILBOXES; m++) wrong |= !may_be_set(k->capacity[m], k->mode[m]);
+    return !wrong;
+}
+
 static int is_sound(const struct kernel *k) {
     uint8_t at[MEMBERS];
-    return k->slice != 0 && k->births[0] == 0 && processes_sound(k, at) && mail_sound(k) && waits_fit(k, at);
+    return settings_fit(k) && k->births[0] == 0 && processes_sound(k, at) && mail_sound(k) && waits_fit(k, at);
 }

@@ -44,6 +44,11 @@ csengadrul_answer csengadrul_tick(uint8_t *state, size_t length) {
     return kernel_tick(K);
 }
 
+csengadrul_answer csengadrul_mailbox(uint8_t *state, size_t length, uint32_t mailbox, uint32_t capacity, uint32_t mode) {
+    (void)length;
+    return kernel_mailbox(K, mailbox, capacity, mode);
+}
+
 csengadrul_answer csengadrul_send(uint8_t *state, size_t length, uint8_t *store, size_t store_length, uint32_t mailbox,
                                   const uint8_t *message, size_t message_length) {
     (void)length;

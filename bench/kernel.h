@@ -32,6 +32,8 @@ struct kernel {
     uint16_t count[CSENGADRUL_SEMAPHORES];
     uint8_t births[CSENGADRUL_PROCESSES];
     uint8_t slice;
+    uint8_t capacity[CSENGADRUL_MAILBOXES];
+    uint8_t mode[CSENGADRUL_MAILBOXES];
 };
 
 static csengadrul_answer answer(const struct kernel *k, uint32_t code, uint32_t number) {
@@ -115,12 +117,16 @@ static void pause_at(struct kernel *k, uint8_t head) {
     choose(k);
 }
 
+static void free_buffer(struct kernel *k, uint8_t b) {
+    k->length[b] = 0;
+    k->free |= 1u << b;
+}
+
 static void free_hand(struct kernel *k, uint8_t p) {
     uint8_t b = k->hand[p];
     k->full &= ~(1u << p);
     k->hand[p] = 0;
-    k->length[b] = 0;
-    k->free |= 1u << b;
+    free_buffer(k, b);
 }
 
 static void take_out(struct kernel *k, uint8_t p) {
@@ -141,6 +147,7 @@ static csengadrul_answer kernel_fresh(struct kernel *k, uint32_t slice) {
     k->unused = ~1u;
     k->free = ~0u;
     k->slice = (uint8_t)slice;
+    memset(k->capacity, CSENGADRUL_USUAL_CAPACITY, sizeof k->capacity);
     return answer(k, CSENGADRUL_DONE, 0);
 }
 
@@ -201,11 +208,33 @@ static csengadrul_answer kernel_tick(struct kernel *k) {
     return answer(k, CSENGADRUL_DONE, 0);
 }
 
-static int box_full(const struct kernel *k, uint8_t head) {
-    uint8_t b = k->box_next[head];
+/* Whether nothing is queued in a mailbox and nobody waits at it. */
+static int box_idle(const struct kernel *k, uint32_t mailbox) {
+    return k->box_next[BOX_HEAD + mailbox] == BOX_HEAD + mailbox &&
+           k->next[MAILBOX_HEAD + mailbox] == MAILBOX_HEAD + mailbox;
+}
+
+static csengadrul_answer kernel_mailbox(struct kernel *k, uint32_t mailbox, uint32_t capacity, uint32_t mode) {
+    if (mailbox >= CSENGADRUL_MAILBOXES) return answer(k, CSENGADRUL_NO_MAILBOX, 0);
+    if (capacity < 1 || capacity > CSENGADRUL_LARGEST_CAPACITY || mode > CSENGADRUL_DROPS)
+        return answer(k, CSENGADRUL_NO_SIZE, 0);
+    if (!box_idle(k, mailbox)) return answer(k, CSENGADRUL_MAILBOX_BUSY, 0);
+    k->capacity[mailbox] = (uint8_t)capacity;
+    k->mode[mailbox] = (uint8_t)mode;
+    return answer(k, CSENGADRUL_DONE, 0);
+}
+
+static int box_full(const struct kernel *k, uint32_t mailbox) {
+    uint8_t head = (uint8_t)(BOX_HEAD + mailbox), b = k->box_next[head];
     int messages = 0;
     for (; b != head; b = k->box_next[b]) messages++;
-    return messages >= CSENGADRUL_MAILBOX_SIZE;
+    return messages >= k->capacity[mailbox];
+}
+
+static void drop_oldest(struct kernel *k, uint8_t head) {
+    uint8_t b = k->box_next[head];
+    link_out(k->box_next, k->box_before, b);
+    free_buffer(k, b);
 }
 
 static csengadrul_answer kernel_send(struct kernel *k, uint8_t *store, size_t store_length, uint32_t mailbox,
@@ -215,7 +244,10 @@ static csengadrul_answer kernel_send(struct kernel *k, uint8_t *store, size_t st
     if (mailbox >= CSENGADRUL_MAILBOXES) return answer(k, CSENGADRUL_NO_MAILBOX, 0);
     if (length > CSENGADRUL_MESSAGE_SIZE) return answer(k, CSENGADRUL_LONG_MESSAGE, 0);
     head = (uint8_t)(BOX_HEAD + mailbox);
-    if (box_full(k, head)) return answer(k, CSENGADRUL_MAILBOX_FULL, 0);
+    if (box_full(k, mailbox)) {
+        if (k->mode[mailbox] == CSENGADRUL_REFUSES) return answer(k, CSENGADRUL_MAILBOX_FULL, 0);
+        drop_oldest(k, head);
+    }
     if (!k->free) return answer(k, CSENGADRUL_NO_BUFFER, 0);
     b = (uint8_t)__builtin_ctz(k->free);
     k->free &= k->free - 1;

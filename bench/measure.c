@@ -65,12 +65,20 @@ static csengadrul_answer begin(uint32_t slice) {
     return a;
 }
 
+/* Mostly a small capacity, so that mailboxes fill; now and then any, or one that is refused. */
+static csengadrul_answer set_mailbox(void) {
+    uint32_t mailbox = pick(CSENGADRUL_MAILBOXES);
+    uint32_t capacity = below(4) ? 1 + below(4) : below(CSENGADRUL_LARGEST_CAPACITY + 2);
+    uint32_t mode = below(8) ? below(2) : below(4);
+    return csengadrul_mailbox(S, mailbox, capacity, mode);
+}
+
 /* So many bytes are shown of the room: the message read, or the whole table of rows. */
 static csengadrul_answer random_call(uint32_t *shown) {
     uint32_t length, i;
     csengadrul_answer a;
     *shown = 0;
-    switch (below(21)) {
+    switch (below(22)) {
     case 0:
     case 1:
     case 2: return create(pick(CSENGADRUL_CLASSES));
@@ -101,6 +109,7 @@ static csengadrul_answer random_call(uint32_t *shown) {
         memcpy(room, rows, sizeof rows);
         *shown = sizeof rows;
         return a;
+    case 20: return set_mailbox();
     default: return csengadrul_wait(S, pick(CSENGADRUL_SEMAPHORES));
     }
 }
@@ -166,14 +175,15 @@ static void damage(unsigned long images) {
 }
 
 /* Process 9 of class 2 runs; 12 is ready behind it, four each in classes 0 and 1; 3 waits at semaphore
- * 5, 6 at mailbox 4; mailbox 3 has five messages of 16 bytes, mailbox 7 three of 512; semaphore 6
- * counts 2. */
+ * 5, 6 at mailbox 4; mailbox 3 has five messages of 16 bytes, mailbox 7, which drops, the three of 512
+ * that it takes; semaphore 6 counts 2. */
 static void prepare(void) {
     uint32_t i;
     csengadrul_fresh_slice(S, SLICE);
     for (i = 0; i < 12; i++) csengadrul_create(S, i % 3);
     csengadrul_wait(S, 5);
     csengadrul_receive(S, 4);
+    csengadrul_mailbox(S, 7, 3, CSENGADRUL_DROPS);
     for (i = 0; i < 5; i++) csengadrul_send(S, STORE, 3, message, 16);
     for (i = 0; i < 3; i++) csengadrul_send(S, STORE, 7, message, 512);
     csengadrul_signal(S, 6);
@@ -255,7 +265,9 @@ static void prepare_hand_512(void) {
     row("class", prepare, csengadrul_class(S, 1), CSENGADRUL_DONE) \
     row("tick", prepare, csengadrul_tick(S), CSENGADRUL_DONE) \
     row("tick, the last", prepare_last_tick, csengadrul_tick(S), CSENGADRUL_DONE) \
+    row("mailbox", prepare, csengadrul_mailbox(S, 9, 4, CSENGADRUL_DROPS), CSENGADRUL_DONE) \
     row("send of 16 bytes", prepare, csengadrul_send(S, STORE, 3, message, 16), CSENGADRUL_DONE) \
+    row("send of 16 bytes, dropping", prepare, csengadrul_send(S, STORE, 7, message, 16), CSENGADRUL_DONE) \
     row("send of 512 bytes", prepare, csengadrul_send(S, STORE, 3, message, 512), CSENGADRUL_DONE) \
     row("send of 16 bytes to a waiter", prepare, csengadrul_send(S, STORE, 4, message, 16), CSENGADRUL_DONE) \
     row("receive", prepare, csengadrul_receive(S, 3), CSENGADRUL_DONE) \

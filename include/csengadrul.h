@@ -33,6 +33,12 @@
  * reasons have numbers. After 256 births of its number a name returns:
  * docs/BOARD.md says what that means for whoever keeps names.
  *
+ * A mailbox has a capacity, as many messages as may be queued in it, and a mode,
+ * which says what becomes of a send when so many are: it is refused, or the oldest
+ * message is dropped for the new one. After a fresh start every mailbox has a
+ * capacity of 8 and refuses; csengadrul_mailbox sets both anew, for one that has
+ * neither messages nor waiters.
+ *
  * "The caller" is the running process. A buffer "in hand" is the message that a
  * process received and has not released. "Choose" means: the first of the highest
  * class with anyone ready runs, else process 0. "Made ready" means: it joins the
@@ -53,24 +59,25 @@ extern "C" {
 /* The version, major and minor: the minor goes up where something is added, the
  * major where the image changes or an answer does, so that a state area kept from
  * another major version is not to be lent. */
-#define CSENGADRUL_VERSION_MAJOR 3
+#define CSENGADRUL_VERSION_MAJOR 4
 #define CSENGADRUL_VERSION_MINOR 0
 #define CSENGADRUL_VERSION (100 * CSENGADRUL_VERSION_MAJOR + CSENGADRUL_VERSION_MINOR)
 
 /* Sizes. */
-#define CSENGADRUL_STATE_SIZE 476    /* bytes of the state area */
-#define CSENGADRUL_STORE_SIZE 16384  /* bytes of the store */
-#define CSENGADRUL_MESSAGE_SIZE 512  /* bytes of the longest message */
-#define CSENGADRUL_PROCESSES 32      /* 0 to 31; 0 is the null process */
-#define CSENGADRUL_CLASSES 5         /* 0 to 4; 4 is the highest */
-#define CSENGADRUL_MAILBOXES 16      /* 0 to 15 */
-#define CSENGADRUL_MAILBOX_SIZE 8    /* messages queued in a mailbox */
-#define CSENGADRUL_BUFFERS 32        /* 0 to 31; buffer b begins at byte 512 b of the store */
-#define CSENGADRUL_SEMAPHORES 16     /* 0 to 15 */
-#define CSENGADRUL_COUNT_LIMIT 65535 /* the highest count of a semaphore */
-#define CSENGADRUL_USUAL_SLICE 5     /* ticks of a full slice where none is named */
-#define CSENGADRUL_LONGEST_SLICE 255 /* ticks of the longest one; the shortest has 1 */
-#define CSENGADRUL_BIRTHS 256        /* birth counts, 0 to 255; after so many births a name returns */
+#define CSENGADRUL_STATE_SIZE 508      /* bytes of the state area */
+#define CSENGADRUL_STORE_SIZE 16384    /* bytes of the store */
+#define CSENGADRUL_MESSAGE_SIZE 512    /* bytes of the longest message */
+#define CSENGADRUL_PROCESSES 32        /* 0 to 31; 0 is the null process */
+#define CSENGADRUL_CLASSES 5           /* 0 to 4; 4 is the highest */
+#define CSENGADRUL_MAILBOXES 16        /* 0 to 15 */
+#define CSENGADRUL_USUAL_CAPACITY 8    /* messages queued in a mailbox at most, where nothing else is set */
+#define CSENGADRUL_LARGEST_CAPACITY 32 /* the largest capacity that may be set; the smallest is 1 */
+#define CSENGADRUL_BUFFERS 32          /* 0 to 31; buffer b begins at byte 512 b of the store */
+#define CSENGADRUL_SEMAPHORES 16       /* 0 to 15 */
+#define CSENGADRUL_COUNT_LIMIT 65535   /* the highest count of a semaphore */
+#define CSENGADRUL_USUAL_SLICE 5       /* ticks of a full slice where none is named */
+#define CSENGADRUL_LONGEST_SLICE 255   /* ticks of the longest one; the shortest has 1 */
+#define CSENGADRUL_BIRTHS 256          /* birth counts, 0 to 255; after so many births a name returns */
 
 /* The number of the process that has this name; that of process 0 is 0, and so is its name. */
 #define CSENGADRUL_NUMBER(name) ((name) % CSENGADRUL_BIRTHS)
@@ -92,6 +99,8 @@ extern "C" {
 #define CSENGADRUL_OFFSET_COUNT 411          /* count of each semaphore, two bytes */
 #define CSENGADRUL_OFFSET_BIRTHS 443         /* birth count of each number */
 #define CSENGADRUL_OFFSET_SLICE 475          /* ticks of a full slice */
+#define CSENGADRUL_OFFSET_CAPACITY 476       /* capacity of each mailbox */
+#define CSENGADRUL_OFFSET_MODE 492           /* mode of each mailbox */
 
 /* Codes of an answer. */
 enum {
@@ -106,12 +115,14 @@ enum {
     CSENGADRUL_HAND_EMPTY = 8,     /* the caller has no message in hand */
     CSENGADRUL_SHORT_ROOM = 9,     /* the room or the table is too short; number: the length needed */
     CSENGADRUL_ALL_PROCESSES = 10, /* no process number is unused */
-    CSENGADRUL_MAILBOX_FULL = 11,  /* the mailbox holds 8 messages */
+    CSENGADRUL_MAILBOX_FULL = 11,  /* the mailbox holds its capacity, and refuses when full */
     CSENGADRUL_NO_BUFFER = 12,     /* no buffer is free */
     CSENGADRUL_COUNT_FULL = 13,    /* the semaphore counts 65,535 */
     CSENGADRUL_NOT_SOUND = 14,     /* the state area holds no sound state; number and running are 0 */
     CSENGADRUL_OTHER_STORE = 15,   /* the store is not 16,384 bytes long */
     CSENGADRUL_NO_SLICE = 16,      /* the slice is 0 or over 255 */
+    CSENGADRUL_NO_SIZE = 17,       /* the capacity is 0 or over 32, or the mode over 1 */
+    CSENGADRUL_MAILBOX_BUSY = 18,  /* the mailbox has messages or waiters */
     CSENGADRUL_WAITS = 32          /* done, and the caller waits now */
 };
 
@@ -126,7 +137,8 @@ typedef struct {
 } csengadrul_answer;
 
 /* Writes the fresh kernel: 0 runs, every other process is unused, all queues and
- * mailboxes are empty, all counts 0, birth counts too, and a full slice has 5 ticks.
+ * mailboxes are empty, all counts 0, birth counts too, every mailbox has a capacity
+ * of 8 and refuses when full, and a full slice has 5 ticks.
  * Answers 0 0 0. Refuses: 14 (the length only; what the area holds is not read).
  * State: the fresh image, whatever was there before. */
 csengadrul_answer csengadrul_fresh(uint8_t *state, size_t state_length);
@@ -168,8 +180,26 @@ csengadrul_answer csengadrul_class(uint8_t *state, size_t state_length, uint32_t
  * State: the next image. */
 csengadrul_answer csengadrul_tick(uint8_t *state, size_t state_length);
 
+/* Modes: what a mailbox that holds its capacity does when a message is sent to it. */
+enum {
+    CSENGADRUL_REFUSES = 0, /* the send is refused with CSENGADRUL_MAILBOX_FULL */
+    CSENGADRUL_DROPS = 1    /* its oldest message is dropped, and the new one is queued */
+};
+
+/* The mailbox gets this capacity, 1 to 32, and this mode, 0 or 1; it must have neither
+ * messages nor waiters, even where nothing would change. Both stay until the next call
+ * of this for the mailbox, or the next fresh start. May come while 0 runs.
+ * Refuses: 14, 3, 17, 18.
+ * State: the next image. */
+csengadrul_answer csengadrul_mailbox(uint8_t *state, size_t state_length, uint32_t mailbox, uint32_t capacity,
+                                     uint32_t mode);
+
 /* The lowest free buffer takes the message. If someone waits at the mailbox, the
  * first waiter gets it in hand and is made ready; else it is queued there last.
+ * A mailbox that holds its capacity refuses with 11; but if its mode is to drop, its
+ * oldest message is lost first, and the buffer of that one is free when the lowest is
+ * looked for. So such a send is refused with neither 11 nor 12. A mailbox that does not
+ * hold its capacity drops nothing, even where no buffer is free, nor does a refused send.
  * Refuses: 14, 15, 3, 6, 11, 12.
  * State: the next image. Store: the message's own bytes, at the start of the
  * buffer that took it; every other byte stays. Message: only read, and not where

@@ -20,6 +20,8 @@ const char *csengadrul_code_text(uint32_t code) {
     case CSENGADRUL_NOT_SOUND: return "the state area holds no sound state";
     case CSENGADRUL_OTHER_STORE: return "the store has another length";
     case CSENGADRUL_NO_SLICE: return "the slice is 0 or over 255";
+    case CSENGADRUL_NO_SIZE: return "the capacity is 0 or over 32, or the mode over 1";
+    case CSENGADRUL_MAILBOX_BUSY: return "the mailbox has messages or waiters";
     case CSENGADRUL_WAITS: return "done, and the caller waits";
     default: return "no code of the kernel";
     }

@@ -2,10 +2,10 @@
  * A small rack: firmware over the kernel, to begin a product from.
  *
  * The rider has a page; line by line it sends the preamp the settings that stand
- * there and the printer the text. The meters take the readings that an interrupt
- * brings. In the middle of the page the printer is stopped with a line in its
- * hand, and started again later. Standard output is the paper, standard error is
- * what the operator sees. The status is 0 only if everything in check_all holds.
+ * there and the printer the text. An interrupt brings readings for the meters; new
+ * ones push out stale ones. In the middle of the page the printer is stopped with a
+ * line in its hand, and started again later. Standard output is the paper, standard
+ * error what the operator sees. The status is 0 only if all of check_all holds.
  *
  * A task is a step function. The kernel says who runs, and the main loop takes a
  * step of that task. A step ends where another task may run next; the following
@@ -22,6 +22,7 @@
 
 #define TURN_LIMIT 1000  /* turns of the main loop; the page takes far fewer */
 #define METER_TURNS 3    /* turns from one reading to the next */
+#define METER_QUEUE 6    /* readings that wait for the meters at most */
 #define TIMER_TURNS 5    /* turns from one tick to the next */
 #define SLICE 3          /* ticks that a task runs before its equals have their turn */
 #define STOPPED_TURNS 40 /* turns that the printer stays stopped */
@@ -53,14 +54,13 @@ static const struct {
 static uint8_t state[CSENGADRUL_STATE_SIZE];
 static uint8_t store[CSENGADRUL_STORE_SIZE];
 static uint8_t room[CSENGADRUL_MESSAGE_SIZE]; /* one for all tasks: no step leaves anything in it */
-static ring control;                          /* the timer's and the printer's interrupts */
-static ring meters;                           /* apart, as a tick must not wait until METERS has room */
+static ring handlers;                         /* one for all: METERS drops, so that no tick waits behind a reading */
 
 static char paper[LINES][LINE_SIZE];
 static size_t printed; /* lines on paper */
 static uint8_t preamp[CHANNELS][SETTING_SIZE];
-static volatile unsigned readings; /* that the handler has put */
-static unsigned arrived;           /* of these, whole and in order */
+static volatile unsigned readings;   /* that the handler has put */
+static unsigned arrived, pushed_out; /* of these, whole and in order; stale ones */
 static uint8_t peak;
 
 typedef void (*step)(void);
@@ -147,9 +147,14 @@ static void preamp_step(void) {
     memcpy(preamp[room[CHANNEL]], room, SETTING_SIZE);
 }
 
+/* Takes the oldest reading that is there. Only METER_QUEUE newer ones push one out. */
 static void meters_step(void) {
+    unsigned next = arrived + pushed_out, missing;
     size_t length;
-    if (!take_message(METERS, &length) || length != 2 || room[0] != (uint8_t)arrived) return;
+    if (!take_message(METERS, &length)) return;
+    missing = (uint8_t)(room[0] - next);
+    if (length != 2 || (missing && next + missing + METER_QUEUE > readings)) fail("meters", "that is not the next reading");
+    pushed_out += missing;
     arrived++;
     if (room[1] > peak) peak = room[1];
 }
@@ -159,11 +164,11 @@ static void meter_handler(void) {
     uint8_t reading[2];
     reading[0] = (uint8_t)readings;
     reading[1] = (uint8_t)(37 * readings % 101); /* a level */
-    if (ring_put_send(&meters, METERS, reading, sizeof reading)) readings = readings + 1;
+    if (ring_put_send(&handlers, METERS, reading, sizeof reading)) readings = readings + 1;
 }
 
 static void timer_handler(void) {
-    ring_put_tick(&control);
+    ring_put_tick(&handlers);
 }
 
 static uint32_t start(step task, uint32_t process_class) {
@@ -174,11 +179,12 @@ static uint32_t start(step task, uint32_t process_class) {
 
 static void start_printer(void) {
     printer = start(printer_step, PRINTER_CLASS);
-    ring_put_signal(&control, NEED); /* as its handler does when it comes on line */
+    ring_put_signal(&handlers, NEED); /* as its handler does when it comes on line */
 }
 
 static void power_on(void) {
     expect("fresh", csengadrul_fresh_slice(state, sizeof state, SLICE), CSENGADRUL_DONE);
+    expect("mailbox", csengadrul_mailbox(state, sizeof state, METERS, METER_QUEUE, CSENGADRUL_DROPS), CSENGADRUL_DONE);
     memset(preamp, 1, sizeof preamp); /* 48 V on everywhere, as the last show left it */
     start(preamp_step, PREAMP_CLASS);
     start(rider_step, SHARED_CLASS);
@@ -216,9 +222,9 @@ static uint32_t sum_of_state(void) {
     return sum;
 }
 
-static void drain(ring *r) {
-    uint32_t code = ring_drain(r, state, sizeof state, store, sizeof store);
-    if (code == CSENGADRUL_MAILBOX_FULL || code == CSENGADRUL_NO_BUFFER) return; /* the next turn goes on with it */
+static void drain(void) {
+    uint32_t code = ring_drain(&handlers, state, sizeof state, store, sizeof store);
+    if (code == CSENGADRUL_NO_BUFFER) return; /* the next turn goes on with it */
     if (code != CSENGADRUL_DONE) fail("ring", csengadrul_code_text(code));
 }
 
@@ -227,7 +233,7 @@ static uint32_t running(void) { /* the same number as in the last answer */
 }
 
 static int is_at_rest(void) {
-    return printed == LINES && running() == 0 && control.put == control.taken && meters.put == meters.taken;
+    return printed == LINES && running() == 0 && handlers.put == handlers.taken;
 }
 
 static void check(int holds, const char *what) {
@@ -245,8 +251,8 @@ static void check_all(void) {
         check(setting[CHANNEL] == 0 || memcmp(set, setting, SETTING_SIZE) == 0, "each preamp is set as the page says");
     }
     check(preamp[14][PHANTOM] == 0, "no phantom power on 14");
-    check(arrived == readings, "every reading arrived, whole and in order");
-    check(control.lost == 0 && meters.lost == 0, "the rings lost nothing");
+    check(arrived + pushed_out == readings, "every reading arrived, or newer ones pushed it out");
+    check(handlers.lost == 0, "the ring lost nothing");
     check(stopped_since != 0 && printer != 0, "the printer was stopped and started again");
     check(is_at_rest(), "the rack came to rest");
 }
@@ -260,13 +266,13 @@ int main(void) {
         if (turn % METER_TURNS == 0) meter_handler();
         if (turn % TIMER_TURNS == 0) timer_handler();
         if (sum_of_state() != sum) fail("state area", "written by another than the kernel");
-        drain(&control);
-        drain(&meters);
-        if (running() != 0) steps[running()](); /* else a board with empty rings sleeps until an interrupt comes */
+        drain();
+        if (running() != 0) steps[running()](); /* else a board with an empty ring sleeps until an interrupt comes */
         operate(turn);
         sum = sum_of_state();
     }
     check_all();
-    fprintf(stderr, "rack: the page is out, in %u turns; %u readings, peak %u\n", turn - 1, arrived, (unsigned)peak);
+    fprintf(stderr, "rack: the page is out, in %u turns; %u readings and %u pushed out, peak %u\n", turn - 1, arrived,
+            pushed_out, (unsigned)peak);
     return 0;
 }

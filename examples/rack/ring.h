@@ -7,9 +7,9 @@
  * order in which they were put.
  *
  * One ring is for the main loop and for handlers on its core that do not interrupt
- * each other; handlers of another priority need another ring. A mailbox that may
- * stay full for long needs one too, because what was put later waits behind it. A
- * ring of zeros is empty.
+ * each other; handlers of another priority need another ring. A mailbox that refuses
+ * and may stay full for long needs one too, because what was put later waits behind
+ * it. A ring of zeros is empty.
  */
 #ifndef RING_H
 #define RING_H

@@ -4,7 +4,7 @@
  *   1 byte   which call, as in lend.h
  *   4 bytes  its number: class, name of a process, mailbox, semaphore or slice
  *   2 bytes  length of the message, of the room, or rows of the table; of the state area, for a fresh start
- *            then the message's bytes, for a send
+ *            then the message's bytes, for a send, or capacity and mode, 4 bytes each, for a mailbox
  * or the byte PUT and the bytes of a state area, which is then the one lent, or the byte FLUSH, which
  * hands on all that was written.
  *
@@ -13,7 +13,7 @@
  *   1 byte    0, or what went wrong: bits 0 to 4 for a guard byte beside an area that changed,
  *             bit 6 for a state area of another length that changed, bit 7 for a message that changed
  *   1 byte    REPLY, for whoever reads to know that both are in step
- *   476 bytes the state area
+ *   508 bytes the state area
  *   4 bytes   the first byte of the store that changed, and how many from there to the last one
  *             then these bytes
  *             then the whole room, for a read, the whole table, for a listing, or kind, which and ahead, for a why
@@ -82,7 +82,7 @@ static void lay(area *a, enum lies lies, size_t told, size_t bytes, void *conten
     a->content = content;
 }
 
-static void make(enum call call, uint32_t number, size_t length, enum lies lies) {
+static void make(enum call call, numbers given, size_t length, enum lies lies) {
     size_t state_length = call == FRESH || call == FRESH_SLICE ? length : CSENGADRUL_STATE_SIZE;
     unsigned wrong;
     area areas[KINDS];
@@ -95,7 +95,7 @@ static void make(enum call call, uint32_t number, size_t length, enum lies lies)
     if (call == SEND || call == READ) memcpy(store_before, store, sizeof store);
     if (call == READ) memset(room, ROOM_BYTE, length);
     if (call == LISTING) memset(rows, ROW_BYTE, length * sizeof *rows);
-    o = lend(call, number, areas);
+    o = lend(call, given, areas);
     give_number(o.answer.code, 4);
     give_number(o.answer.number, 4);
     give_number(o.answer.running, 4);
@@ -124,11 +124,17 @@ int main(void) {
         } else if (which == FLUSH) {
             if (fflush(stdout) != 0) return 1;
         } else {
-            uint32_t number = take_number(4);
-            size_t length = take_number(2);
-            if (which > FRESH_SLICE || length > LONGEST) return 1;
+            numbers given = {0, 0, 0};
+            size_t length;
+            given.number = take_number(4);
+            length = take_number(2);
+            if (which > MAILBOX || length > LONGEST) return 1;
             if (which == SEND) take(message, length);
-            make((enum call)which, number, length, turn % 2 ? AT_THE_END : AT_THE_START);
+            if (which == MAILBOX) {
+                given.capacity = take_number(4);
+                given.mode = take_number(4);
+            }
+            make((enum call)which, given, length, turn % 2 ? AT_THE_END : AT_THE_START);
         }
     }
     return fflush(stdout) != 0;

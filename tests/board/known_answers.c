@@ -1,7 +1,8 @@
 /* The board's calls with answers that are known beforehand: the samples of document 01, fresh starts
- * with every slice, every code, every kind of reason, names that go stale and names that return, and
- * areas of every kind of length. Everything is done twice, with the areas against the end of their pages
- * and against the start. What must stay as it is is compared byte for byte. */
+ * with every slice, every code, every kind of reason, names that go stale and names that return, mailboxes
+ * of every capacity, those that refuse and those that drop, and areas of every kind of length. Everything
+ * is done twice, with the areas against the end of their pages and against the start. What must stay as it
+ * is is compared byte for byte. */
 #include "lend.h"
 
 #include <stdio.h>
@@ -15,6 +16,7 @@
 #define TABLE_ROWS (2 * CSENGADRUL_PROCESSES)
 #define ROW_BYTE 0xee
 #define SLICE 3 /* ticks of a full slice, as document 01 has it */
+#define NONE CSENGADRUL_BUFFERS /* no buffer */
 
 static uint8_t state[CSENGADRUL_STATE_SIZE + 1];
 static uint8_t store[CSENGADRUL_STORE_SIZE + 1];
@@ -32,6 +34,7 @@ static enum lies side;
 static unsigned passed, failed;
 static unsigned long codes_seen;
 static uint8_t births[CSENGADRUL_PROCESSES]; /* how often each number was born, as document 02 counts */
+static size_t dropped = NONE;                /* the buffer whose message the send at hand is to drop */
 
 static void count(int good, const char *what) {
     if (good) {
@@ -62,9 +65,14 @@ static void usual(void) {
     areas[ROWS].content = (uint8_t *)rows;
 }
 
+static int is_free(const uint8_t *image, size_t buffer) {
+    return image[CSENGADRUL_OFFSET_FREE_BITS + buffer / 8] >> (buffer % 8) & 1;
+}
+
+/* The buffer that a send takes: what it drops is free by then. */
 static size_t lowest_free_buffer(const uint8_t *image) {
     size_t b = 0;
-    while (b < CSENGADRUL_BUFFERS && !(image[CSENGADRUL_OFFSET_FREE_BITS + b / 8] >> (b % 8) & 1)) b++;
+    while (b < CSENGADRUL_BUFFERS && b != dropped && !is_free(image, b)) b++;
     return b;
 }
 
@@ -82,27 +90,44 @@ static int read_well(size_t length) {
     return memcmp(room + length, room_before + length, areas[ROOM].bytes - length) == 0;
 }
 
+/* A mailbox gets its capacity and its mode, and no other byte of the state changes. */
+static int set_well(numbers given) {
+    if (given.number >= CSENGADRUL_MAILBOXES) return 0;
+    state_before[CSENGADRUL_OFFSET_CAPACITY + given.number] = (uint8_t)given.capacity;
+    state_before[CSENGADRUL_OFFSET_MODE + given.number] = (uint8_t)given.mode;
+    return memcmp(state, state_before, sizeof state) == 0;
+}
+
+/* The slice, capacities and modes are as they were: the last bytes of the state. */
+static int settings_stay(void) {
+    return memcmp(state + CSENGADRUL_OFFSET_SLICE, state_before + CSENGADRUL_OFFSET_SLICE,
+                  CSENGADRUL_STATE_SIZE - CSENGADRUL_OFFSET_SLICE) == 0;
+}
+
 static int is_reason(const csengadrul_reason *r, uint32_t kind, uint32_t which, uint32_t ahead) {
     return r->kind == kind && r->which == which && r->ahead == ahead;
 }
 
 /* What the call may have changed, by its code. A refused question has zeros for its reason. */
-static int kept(enum call call, const outcome *o) {
+static int kept(enum call call, numbers given, const outcome *o) {
     uint32_t code = o->answer.code;
     if (code != CSENGADRUL_DONE && code != CSENGADRUL_WAITS)
         return o->changed == 0 && (call != WHY || is_reason(&o->reason, 0, 0, 0));
     if (memcmp(message, message_before, sizeof message) != 0) return 0;
     switch (call) {
-    case SEND: return sent_well();
+    case SEND: return sent_well() && settings_stay();
     case READ: return (o->changed & ~(1u << ROOM)) == 0 && read_well(o->answer.number);
     case LISTING: return (o->changed & ~(1u << ROWS)) == 0;
     case WHY: return o->changed == 0;
-    default: return (o->changed & ~(1u << STATE)) == 0;
+    case MAILBOX: return set_well(given);
+    case FRESH:
+    case FRESH_SLICE: return 1;
+    default: return settings_stay();
     }
 }
 
 /* Makes a call and counts whether it answers this, and touches nothing that it must not. */
-static outcome expect(const char *what, enum call call, uint32_t given, uint32_t code, uint32_t number, uint32_t running) {
+static outcome expect_of(const char *what, enum call call, numbers given, uint32_t code, uint32_t number, uint32_t running) {
     outcome o;
     memcpy(state_before, state, sizeof state);
     if (call == SEND) memcpy(store_before, store, sizeof store);
@@ -117,9 +142,18 @@ static outcome expect(const char *what, enum call call, uint32_t given, uint32_t
                (unsigned long)number, (unsigned long)running);
     if (o.escaped) printf("%s: a guard byte changed, areas %#x\n", what, o.escaped);
     count(o.answer.code == code && o.answer.number == number && o.answer.running == running && !o.escaped &&
-              kept(call, &o),
+              kept(call, given, &o),
           what);
     return o;
+}
+
+/* The same of a call with one number. A mailbox is set to what it is at the start. */
+static outcome expect(const char *what, enum call call, uint32_t given, uint32_t code, uint32_t number, uint32_t running) {
+    numbers one;
+    one.number = given;
+    one.capacity = 8;
+    one.mode = 0;
+    return expect_of(what, call, one, code, number, running);
 }
 
 static void start(uint32_t slice) {
@@ -160,6 +194,50 @@ static void write_message(size_t length, unsigned seed) {
 static void send(uint32_t mailbox, size_t length, uint32_t code, uint32_t running) {
     write_message(length, mailbox + (unsigned)length);
     expect("send", SEND, mailbox, code, 0, running);
+}
+
+/* Writes into the state before a call that a buffer is free, or has a message of this length. */
+static void put_buffer(size_t buffer, int free, size_t length) {
+    uint8_t *bits = &state_before[CSENGADRUL_OFFSET_FREE_BITS + buffer / 8], bit = (uint8_t)(1u << buffer % 8);
+    *bits = (uint8_t)(free ? *bits | bit : *bits & ~bit);
+    state_before[CSENGADRUL_OFFSET_LENGTH + 2 * buffer] = (uint8_t)length;
+    state_before[CSENGADRUL_OFFSET_LENGTH + 2 * buffer + 1] = (uint8_t)(length >> 8);
+}
+
+/* Where nobody waits, a send changes nothing beside the queues of mailboxes but what stands of its buffer, and of the
+ * one whose message it drops. */
+static int only_buffers_changed(size_t length) {
+    size_t taken = lowest_free_buffer(state_before);
+    put_buffer(dropped, 1, 0);
+    put_buffer(taken, 0, length);
+    memcpy(state_before + CSENGADRUL_OFFSET_MESSAGE_NEXT, state + CSENGADRUL_OFFSET_MESSAGE_NEXT,
+           CSENGADRUL_OFFSET_HAND - CSENGADRUL_OFFSET_MESSAGE_NEXT);
+    return memcmp(state, state_before, sizeof state) == 0;
+}
+
+/* A send that drops the message in this buffer first. */
+static void send_dropping(uint32_t mailbox, size_t length, size_t buffer, uint32_t running) {
+    dropped = buffer;
+    send(mailbox, length, CSENGADRUL_DONE, running);
+    count(only_buffers_changed(length), "a drop changes no more than mailboxes and buffers");
+    dropped = NONE;
+}
+
+/* The caller takes the first message of a mailbox, of this length, and is done with it. */
+static void fetch(uint32_t mailbox, size_t length, uint32_t running) {
+    expect("receive", RECEIVE, mailbox, CSENGADRUL_DONE, (uint32_t)length, running);
+    expect("read", READ, 0, CSENGADRUL_DONE, (uint32_t)length, running);
+    write_message(length, mailbox + (unsigned)length);
+    count(memcmp(room, message, length) == 0, "it is the message that was sent");
+    expect("release", RELEASE, 0, CSENGADRUL_DONE, 0, running);
+}
+
+static void set(uint32_t mailbox, uint32_t capacity, uint32_t mode, uint32_t code, uint32_t running) {
+    numbers given;
+    given.number = mailbox;
+    given.capacity = capacity;
+    given.mode = mode;
+    expect_of("mailbox", MAILBOX, given, code, 0, running);
 }
 
 static void sample_of_the_paper(void) {
@@ -240,10 +318,10 @@ static void full_tables(void) {
     expect("create with no number unused", CREATE, 0, CSENGADRUL_ALL_PROCESSES, 0, 4);
     expect("create 5 with no number unused", CREATE, 5, CSENGADRUL_NO_CLASS, 0, 4);
     fresh();
-    for (i = 0; i < CSENGADRUL_MAILBOX_SIZE; i++) send(0, i, CSENGADRUL_DONE, 0);
+    for (i = 0; i < 8; i++) send(0, i, CSENGADRUL_DONE, 0);
     send(0, 5, CSENGADRUL_MAILBOX_FULL, 0);
     for (m = 1; m < 4; m++)
-        for (i = 0; i < CSENGADRUL_MAILBOX_SIZE; i++) send(m, 512 - i, CSENGADRUL_DONE, 0);
+        for (i = 0; i < 8; i++) send(m, 512 - i, CSENGADRUL_DONE, 0);
     send(4, 5, CSENGADRUL_NO_BUFFER, 0);
     send(0, 5, CSENGADRUL_MAILBOX_FULL, 0);
     create(0, 1, 1);
@@ -333,7 +411,7 @@ static void hand_full(void) {
 
 static void state_of(enum lies lies, size_t told, size_t bytes) {
     int call;
-    for (call = FRESH; call <= (int)FRESH_SLICE; call++) {
+    for (call = FRESH; call <= (int)MAILBOX; call++) {
         hand_full();
         lay(STATE, lies, told, bytes);
         expect("a state of another length", call, 1, CSENGADRUL_NOT_SOUND, 0, 0);
@@ -346,6 +424,7 @@ static void other_lengths(void (*lent)(enum lies, size_t, size_t), size_t right)
     lent(NULL_POINTER, 0, 0);
     lent(OUT_OF_REACH, 0, 0);
     lent(side, 1, 1);
+    lent(side, 476, 476); /* the state of version 3 */
     lent(side, right - 1, right - 1);
     lent(side, right + 1, right + 1);
     lent(OUT_OF_REACH, HUGE_LENGTH, 0);
@@ -684,6 +763,332 @@ static void slices_at_work(void) {
     count(row_is(2, CSENGADRUL_RUNNING, 0, 0, 0, 255, 0, 0), "and so has who begins to run");
 }
 
+/* Numbers at the edges of what may be set, and some that another width would take for good ones. */
+static const uint32_t edges[] = {0, 1, 2, 15, 16, 32, 33, 255, 256, 257, 65537, 0x80000001u, 0xffffffffu};
+#define EDGES (sizeof edges / sizeof *edges)
+
+/* Every mailbox with every edge as capacity and as mode. Good numbers get this code. */
+static void set_to_edges(uint32_t good, uint32_t running) {
+    size_t m, c, d;
+    for (m = 0; m < EDGES; m++)
+        for (c = 0; c < EDGES; c++)
+            for (d = 0; d < EDGES; d++) {
+                int is_size = edges[c] >= 1 && edges[c] <= 32 && edges[d] <= 1;
+                uint32_t code = is_size ? good : CSENGADRUL_NO_SIZE;
+                set(edges[m], edges[c], edges[d], edges[m] <= 15 ? code : CSENGADRUL_NO_MAILBOX, running);
+            }
+}
+
+/* While 0 runs and nothing is in any mailbox; and while 4 runs, 0 has a message and 2 two, one process waits at 1 and
+ * two wait at 15, so that every mailbox among the edges is busy. */
+static void edges_of_sizes(void) {
+    uint32_t p;
+    fresh();
+    set_to_edges(CSENGADRUL_DONE, 0);
+    fresh();
+    for (p = 1; p <= 3; p++) {
+        create(2, p, p);
+        expect("receive", RECEIVE, p == 3 ? 1 : 15, CSENGADRUL_WAITS, 0, 0);
+    }
+    create(1, 4, 4);
+    send(0, 3, CSENGADRUL_DONE, 4);
+    send(2, 4, CSENGADRUL_DONE, 4);
+    send(2, 5, CSENGADRUL_DONE, 4);
+    set_to_edges(CSENGADRUL_MAILBOX_BUSY, 4);
+}
+
+/* Every size and every habit, and where docs/IMAGE.md has them. */
+static void every_size(void) {
+    uint32_t m, c, there = 0;
+    fresh();
+    for (m = 0; m < 16; m++)
+        for (c = 1; c <= 32; c++) {
+            set(m, c, 1, CSENGADRUL_DONE, 0);
+            set(m, c, 0, CSENGADRUL_DONE, 0);
+        }
+    create(4, 1, 1);
+    create(4, 2, 1);
+    for (m = 0; m < 16; m++) set(m, 2 * m + 1, m % 2, CSENGADRUL_DONE, 1);
+    for (m = 0; m < 16; m++) there += state[476 + m] == 2 * m + 1 && state[492 + m] == m % 2;
+    count(there == 16, "the state has capacities at 476 and modes at 492");
+    tick(1);
+    set(0, 32, 0, CSENGADRUL_DONE, 1);
+    tick(1);
+    set(0, 1, 1, CSENGADRUL_DONE, 1);
+    tick(2);
+}
+
+/* 18 is for messages that are queued there and for processes that wait there, and for nothing else. */
+static void busy_mailbox(uint32_t m) {
+    uint32_t other;
+    fresh();
+    create(2, 1, 1);
+    send(m, 3, CSENGADRUL_DONE, 1);
+    for (other = 0; other < 16; other++) set(other, 9, 1, other == m ? CSENGADRUL_MAILBOX_BUSY : CSENGADRUL_DONE, 1);
+    set(m, 8, 0, CSENGADRUL_MAILBOX_BUSY, 1);
+    expect("receive", RECEIVE, m, CSENGADRUL_DONE, 3, 1);
+    set(m, 1, 1, CSENGADRUL_DONE, 1);
+    expect("release", RELEASE, 0, CSENGADRUL_DONE, 0, 1);
+    expect("receive", RECEIVE, m, CSENGADRUL_WAITS, 0, 0);
+    for (other = 0; other < 16; other++) set(other, 7, 0, other == m ? CSENGADRUL_MAILBOX_BUSY : CSENGADRUL_DONE, 0);
+    set(m, 1, 1, CSENGADRUL_MAILBOX_BUSY, 0);
+    create(1, 2, 2);
+    expect("receive", RECEIVE, m, CSENGADRUL_WAITS, 0, 0);
+    send(m, 4, CSENGADRUL_DONE, 1);
+    set(m, 1, 1, CSENGADRUL_MAILBOX_BUSY, 1);
+    stop(2, 1);
+    set(m, 2, 0, CSENGADRUL_DONE, 1);
+    expect("wait", WAIT, m, CSENGADRUL_WAITS, 0, 0);
+    set(m, 32, 1, CSENGADRUL_DONE, 0);
+    expect("signal", SIGNAL, m, CSENGADRUL_DONE, 0, 1);
+    expect("release", RELEASE, 0, CSENGADRUL_DONE, 0, 1);
+}
+
+static void refusals_of_sizes_in_order(void) {
+    fresh();
+    set(16, 0, 2, CSENGADRUL_NO_MAILBOX, 0);
+    set(16, 8, 0, CSENGADRUL_NO_MAILBOX, 0);
+    send(15, 3, CSENGADRUL_DONE, 0);
+    set(15, 0, 0, CSENGADRUL_NO_SIZE, 0);
+    set(15, 33, 0, CSENGADRUL_NO_SIZE, 0);
+    set(15, 8, 2, CSENGADRUL_NO_SIZE, 0);
+    set(15, 32, 1, CSENGADRUL_MAILBOX_BUSY, 0);
+    set(15, 8, 0, CSENGADRUL_MAILBOX_BUSY, 0);
+    lay(STATE, side, CSENGADRUL_STATE_SIZE - 1, CSENGADRUL_STATE_SIZE - 1);
+    set(16, 0, 2, CSENGADRUL_NOT_SOUND, 0);
+    set(15, 8, 0, CSENGADRUL_NOT_SOUND, 0);
+    usual();
+    state[CSENGADRUL_OFFSET_MODE + 3] = 2;
+    set(16, 0, 2, CSENGADRUL_NOT_SOUND, 0);
+    set(3, 8, 0, CSENGADRUL_NOT_SOUND, 0);
+}
+
+/* As many messages as it takes, each whole and in order; the next is refused and none is lost. */
+static void refusing_mailbox(uint32_t capacity) {
+    uint32_t i;
+    fresh();
+    create(2, 1, 1);
+    set(9, capacity, 0, CSENGADRUL_DONE, 1);
+    for (i = 0; i < capacity; i++) send(9, 10 + i, CSENGADRUL_DONE, 1);
+    send(9, 5, CSENGADRUL_MAILBOX_FULL, 1);
+    send(9, 513, CSENGADRUL_LONG_MESSAGE, 1);
+    send(8, 5, capacity < 32 ? CSENGADRUL_DONE : CSENGADRUL_NO_BUFFER, 1);
+    fetch(9, 10, 1);
+    send(9, 10 + capacity, CSENGADRUL_DONE, 1);
+    send(9, 5, CSENGADRUL_MAILBOX_FULL, 1);
+    for (i = 1; i <= capacity; i++) fetch(9, 10 + i, 1);
+    expect("nothing is left", RECEIVE, 9, CSENGADRUL_WAITS, 0, 0);
+}
+
+/* No send is refused, and the newest are there in order, as many as it takes. The buffer of the dropped one is the
+ * lowest that is free, and takes the new one. */
+static void dropping_mailbox(uint32_t capacity) {
+    uint32_t i, sends = 2 * capacity + 3;
+    fresh();
+    create(2, 1, 1);
+    set(9, capacity, 1, CSENGADRUL_DONE, 1);
+    for (i = 0; i < capacity; i++) send(9, 10 + i, CSENGADRUL_DONE, 1);
+    for (; i < sends; i++) send_dropping(9, 10 + i, i % capacity, 1);
+    for (i = sends - capacity; i < sends; i++) fetch(9, 10 + i, 1);
+    expect("nothing else is left", RECEIVE, 9, CSENGADRUL_WAITS, 0, 0);
+}
+
+/* Counts whether the messages of a mailbox lie in these buffers, the oldest first, by the tables of docs/IMAGE.md. */
+static void queue_is(uint32_t mailbox, const uint8_t *buffers, size_t messages) {
+    const uint8_t *next = state + CSENGADRUL_OFFSET_MESSAGE_NEXT, *before = state + CSENGADRUL_OFFSET_MESSAGE_BEFORE;
+    size_t head = 32 + mailbox, at = head, i, wrong = 0;
+    for (i = 0; i <= messages; i++) {
+        size_t then = i < messages ? buffers[i] : head;
+        wrong += next[at] != then || before[then] != at || (then < head && is_free(state, then));
+        at = then;
+    }
+    count(!wrong, "the messages lie in these buffers, in this order");
+}
+#define QUEUE_IS(mailbox, buffers) queue_is(mailbox, buffers, sizeof buffers)
+
+/* The lowest free buffer takes the message. Below the dropped one 0 is free, then 1, then 2; at last it is the lowest. */
+static void lowest_after_a_drop(void) {
+    static const uint8_t at_first[] = {1, 2, 3}, in_0[] = {2, 3, 0}, in_1[] = {3, 0, 1}, in_2[] = {0, 1, 2};
+    static const uint8_t in_0_again[] = {1, 2, 0};
+    fresh();
+    create(2, 1, 1);
+    create(2, 2, 1);
+    tick(1);
+    set(5, 3, 1, CSENGADRUL_DONE, 1);
+    send(4, 8, CSENGADRUL_DONE, 1);
+    send(5, 11, CSENGADRUL_DONE, 1);
+    send(5, 12, CSENGADRUL_DONE, 1);
+    send(5, 13, CSENGADRUL_DONE, 1);
+    fetch(4, 8, 1);
+    QUEUE_IS(5, at_first);
+    send_dropping(5, 14, 1, 1);
+    QUEUE_IS(5, in_0);
+    send_dropping(5, 15, 2, 1);
+    QUEUE_IS(5, in_1);
+    send_dropping(5, 16, 3, 1);
+    QUEUE_IS(5, in_2);
+    send_dropping(5, 17, 0, 1);
+    QUEUE_IS(5, in_0_again);
+    fetch(5, 15, 1);
+    fetch(5, 16, 1);
+    fetch(5, 17, 1);
+}
+
+/* Mailbox 5 takes 4 and drops, and has them in buffers 0 to 3; 6 takes 4 and drops, and has 3; 2 takes 2 and refuses,
+ * and has them; 1 takes 32, refuses, and has the 23 that are left. 4 takes 1 and drops, and has none. */
+static void all_buffers_in_use(void) {
+    uint32_t i;
+    fresh();
+    create(2, 1, 1);
+    set(5, 4, 1, CSENGADRUL_DONE, 1);
+    set(6, 4, 1, CSENGADRUL_DONE, 1);
+    set(2, 2, 0, CSENGADRUL_DONE, 1);
+    set(1, 32, 0, CSENGADRUL_DONE, 1);
+    set(4, 1, 1, CSENGADRUL_DONE, 1);
+    for (i = 0; i < 4; i++) send(5, 20 + i, CSENGADRUL_DONE, 1);
+    for (i = 0; i < 3; i++) send(6, 30 + i, CSENGADRUL_DONE, 1);
+    for (i = 0; i < 2; i++) send(2, 40 + i, CSENGADRUL_DONE, 1);
+    for (i = 0; i < 23; i++) send(1, 50 + i, CSENGADRUL_DONE, 1);
+}
+
+/* Only a mailbox that drops and is full makes room, by one message of its own for each send. */
+static void drops_with_all_in_use(void) {
+    static const uint8_t of_5[] = {0, 1, 2, 3}, then_of_5[] = {1, 2, 3, 0}, last_of_5[] = {2, 3, 0, 1};
+    static const uint8_t of_6[] = {4, 5, 6}, of_2[] = {7, 8};
+    uint32_t i;
+    all_buffers_in_use();
+    send(6, 5, CSENGADRUL_NO_BUFFER, 1);
+    send(4, 5, CSENGADRUL_NO_BUFFER, 1);
+    send(1, 5, CSENGADRUL_NO_BUFFER, 1);
+    send(7, 5, CSENGADRUL_NO_BUFFER, 1);
+    send(2, 5, CSENGADRUL_MAILBOX_FULL, 1);
+    send(5, 513, CSENGADRUL_LONG_MESSAGE, 1);
+    lay(STORE, side, 16383, 16383);
+    expect("15 of a mailbox that would drop", SEND, 5, CSENGADRUL_OTHER_STORE, 0, 1);
+    usual();
+    QUEUE_IS(5, of_5);
+    send_dropping(5, 24, 0, 1);
+    QUEUE_IS(5, then_of_5);
+    for (i = 1; i < 6; i++) send_dropping(5, 24 + i, i % 4, 1);
+    QUEUE_IS(5, last_of_5);
+    QUEUE_IS(6, of_6);
+    QUEUE_IS(2, of_2);
+    expect("wait at 4 for a message", RECEIVE, 4, CSENGADRUL_WAITS, 0, 0);
+    send(4, 5, CSENGADRUL_NO_BUFFER, 0);
+    send_dropping(5, 30, 2, 0);
+    why(1, 0, CSENGADRUL_WHY_MAILBOX, 4, 0);
+    create(1, 2, 2);
+    for (i = 27; i <= 30; i++) fetch(5, i, 2);
+    for (i = 30; i <= 32; i++) fetch(6, i, 2);
+    for (i = 50; i <= 72; i++) fetch(1, i, 2);
+    fetch(2, 40, 2);
+    fetch(2, 41, 2);
+}
+
+/* A mailbox that takes one message and drops always has the newest. What is in hand is no longer in the mailbox, and
+ * stays as it is. */
+static void newest_alone(void) {
+    static const size_t lengths[] = {512, 0, 1, 511, 0, 3};
+    size_t i;
+    fresh();
+    set(0, 1, 1, CSENGADRUL_DONE, 0);
+    create(2, 1, 1);
+    send(0, 7, CSENGADRUL_DONE, 1);
+    expect("receive", RECEIVE, 0, CSENGADRUL_DONE, 7, 1);
+    send(0, 100, CSENGADRUL_DONE, 1);
+    for (i = 0; i < sizeof lengths / sizeof *lengths; i++) send_dropping(0, lengths[i], 1, 1);
+    expect("read", READ, 0, CSENGADRUL_DONE, 7, 1);
+    write_message(7, 7);
+    count(memcmp(room, message, 7) == 0, "the message in hand is the one that was received");
+    expect("release", RELEASE, 0, CSENGADRUL_DONE, 0, 1);
+    fetch(0, 3, 1);
+    for (i = 0; i < sizeof lengths / sizeof *lengths; i++) {
+        send(0, 9, CSENGADRUL_DONE, 1);
+        send_dropping(0, lengths[i], 0, 1);
+        fetch(0, lengths[i], 1);
+    }
+}
+
+/* Where processes wait, messages go into their hands and none is dropped. */
+static void waiters_at_a_dropping_mailbox(void) {
+    fresh();
+    set(11, 1, 1, CSENGADRUL_DONE, 0);
+    create(1, 1, 1);
+    expect("receive", RECEIVE, 11, CSENGADRUL_WAITS, 0, 0);
+    create(2, 2, 2);
+    expect("receive", RECEIVE, 11, CSENGADRUL_WAITS, 0, 0);
+    send(11, 3, CSENGADRUL_DONE, 1);
+    send(11, 4, CSENGADRUL_DONE, 2);
+    send(11, 5, CSENGADRUL_DONE, 2);
+    send_dropping(11, 6, 2, 2);
+    expect("read", READ, 0, CSENGADRUL_DONE, 4, 2);
+    expect("end", END, 0, CSENGADRUL_DONE, 0, 1);
+    expect("read", READ, 0, CSENGADRUL_DONE, 3, 1);
+    expect("release", RELEASE, 0, CSENGADRUL_DONE, 0, 1);
+    fetch(11, 6, 1);
+}
+
+/* Whether every mailbox takes 8 and refuses. */
+static int as_at_the_start(void) {
+    size_t m, there = 0;
+    for (m = 0; m < 16; m++) there += state[476 + m] == 8 && state[492 + m] == 0;
+    return there == 16;
+}
+
+/* Sizes and slices do not meet, and a fresh start of either kind sets both anew. */
+static void sizes_and_fresh_starts(void) {
+    uint32_t m;
+    start(7);
+    count(as_at_the_start(), "every mailbox takes 8 and refuses");
+    for (m = 0; m < 16; m++) set(m, m + 1, 1, CSENGADRUL_DONE, 0);
+    take_turns(7);
+    expect("fresh", FRESH, 0, CSENGADRUL_DONE, 0, 0);
+    count(as_at_the_start(), "every mailbox takes 8 and refuses again");
+    for (m = 0; m < 16; m++) set(m, 32 - m, 1, CSENGADRUL_DONE, 0);
+    take_turns(5);
+    expect("16 leaves the sizes", FRESH_SLICE, 0, CSENGADRUL_NO_SLICE, 0, 0);
+    start(255);
+    count(as_at_the_start(), "every mailbox takes 8 and refuses, with another slice");
+    for (m = 0; m < 8; m++) send(3, m, CSENGADRUL_DONE, 0);
+    send(3, 8, CSENGADRUL_MAILBOX_FULL, 0);
+}
+
+/* A call that only looks at the state, with another byte in it, which is put back. */
+static void with_byte(size_t at, uint8_t byte, uint32_t code, uint32_t running) {
+    uint8_t was = state[at];
+    state[at] = byte;
+    expect("another byte in the state", LISTING, 0, code, 0, running);
+    state[at] = was;
+}
+
+/* 1 to 32 alone are a capacity, 0 and 1 alone a mode. */
+static void damaged_sizes(void) {
+    uint32_t m, byte;
+    fresh();
+    for (m = 0; m < 16; m++)
+        for (byte = 0; byte < 256; byte++) {
+            with_byte(476 + m, (uint8_t)byte, byte >= 1 && byte <= 32 ? CSENGADRUL_DONE : CSENGADRUL_NOT_SOUND, 0);
+            with_byte(492 + m, (uint8_t)byte, byte <= 1 ? CSENGADRUL_DONE : CSENGADRUL_NOT_SOUND, 0);
+        }
+}
+
+/* A mailbox has no more messages than it takes itself, whether it refuses or drops and whatever the others take. */
+static void damaged_fillings(void) {
+    static const uint32_t fillings[] = {1, 2, 8, 9, 20, 32};
+    uint32_t m, i, f, c;
+    for (m = 0; m < 16; m++)
+        for (f = 0; f < sizeof fillings / sizeof *fillings; f++) {
+            fresh();
+            set(m, fillings[f], f % 2, CSENGADRUL_DONE, 0);
+            set((m + 1) % 16, 1, 1, CSENGADRUL_DONE, 0);
+            set((m + 15) % 16, 32, 0, CSENGADRUL_DONE, 0);
+            for (i = 0; i < fillings[f]; i++) send(m, i, CSENGADRUL_DONE, 0);
+            for (c = 1; c <= 32; c++)
+                with_byte(476 + m, (uint8_t)c, c >= fillings[f] ? CSENGADRUL_DONE : CSENGADRUL_NOT_SOUND, 0);
+            with_byte(492 + m, (uint8_t)!(f % 2), CSENGADRUL_DONE, 0);
+        }
+}
+
 /* Whatever the area holds, a fresh start writes the same image but for the slice. */
 static void fresh_images(void) {
     uint8_t image[CSENGADRUL_STATE_SIZE];
@@ -696,8 +1101,9 @@ static void fresh_images(void) {
     for (slice = 1; slice <= 255; slice++) {
         memset(state, (int)slice, sizeof state);
         expect("fresh over anything, with a slice", FRESH_SLICE, slice, CSENGADRUL_DONE, 0, 0);
-        count(memcmp(state, image, CSENGADRUL_OFFSET_SLICE) == 0, "every other byte is the same");
         count(state[CSENGADRUL_OFFSET_SLICE] == slice, "the slice is the one named");
+        image[CSENGADRUL_OFFSET_SLICE] = (uint8_t)slice;
+        count(memcmp(state, image, sizeof image) == 0, "every other byte is the same");
     }
 }
 
@@ -723,12 +1129,8 @@ static void refused_slices(void) {
     fresh();
 }
 
-/* A call that only looks at the state, with another slice in it, which is put back. */
 static void with_slice(uint8_t slice, uint32_t code, uint32_t running) {
-    uint8_t was = state[CSENGADRUL_OFFSET_SLICE];
-    state[CSENGADRUL_OFFSET_SLICE] = slice;
-    expect("another slice in the state", LISTING, 0, code, 0, running);
-    state[CSENGADRUL_OFFSET_SLICE] = was;
+    with_byte(CSENGADRUL_OFFSET_SLICE, slice, code, running);
 }
 
 /* Nobody has more ticks left than the slice, and who waits has all of them. */
@@ -757,7 +1159,7 @@ static void damaged_slices(void) {
 }
 
 /* In a fresh image the counts may be anything, those of births too but for 0's, the slice anything but 0,
- * and no other byte anything but what it is. */
+ * a capacity also 9 and a mode also 1, and no other byte anything but what it is. */
 static void damaged_fresh_image(void) {
     static const uint8_t flips[] = {1, 0x80, 0xff};
     size_t i, j;
@@ -765,16 +1167,17 @@ static void damaged_fresh_image(void) {
     for (i = 0; i < CSENGADRUL_STATE_SIZE; i++)
         for (j = 0; j < sizeof flips; j++) {
             state[i] ^= flips[j];
-            if (i < CSENGADRUL_OFFSET_COUNT || i == CSENGADRUL_OFFSET_BIRTHS)
+            if (i < CSENGADRUL_OFFSET_COUNT || i == CSENGADRUL_OFFSET_BIRTHS || (i > CSENGADRUL_OFFSET_SLICE && j > 0))
                 expect("a damaged byte", TICK, 0, CSENGADRUL_NOT_SOUND, 0, 0);
-            else expect("another count or slice", TICK, 0, CSENGADRUL_DONE, 0, 0);
+            else expect("another count or setting", TICK, 0, CSENGADRUL_DONE, 0, 0);
             state[i] ^= flips[j];
         }
 }
 
 static void damaged_for_each_call(void) {
     int call;
-    for (call = CREATE; call <= (int)WHY; call++) {
+    for (call = CREATE; call <= (int)MAILBOX; call++) {
+        if (call == FRESH_SLICE) continue;
         hand_full();
         state[0] = 2;
         expect("a state in which an unused process runs", call, 1, CSENGADRUL_NOT_SOUND, 0, 0);
@@ -784,6 +1187,12 @@ static void damaged_for_each_call(void) {
         state[CSENGADRUL_OFFSET_BIRTHS] = 0;
         state[CSENGADRUL_OFFSET_SLICE] = SLICE - 1;
         expect("a state in which one has more ticks than a slice", call, 1, CSENGADRUL_NOT_SOUND, 0, 0);
+        state[CSENGADRUL_OFFSET_SLICE] = SLICE;
+        state[CSENGADRUL_OFFSET_CAPACITY + 15] = 33;
+        expect("a state in which a mailbox takes too many", call, 1, CSENGADRUL_NOT_SOUND, 0, 0);
+        state[CSENGADRUL_OFFSET_CAPACITY + 15] = 8;
+        state[CSENGADRUL_OFFSET_MODE] = 2;
+        expect("a state in which a mailbox neither refuses nor drops", call, 1, CSENGADRUL_NOT_SOUND, 0, 0);
         memset(state, 0, sizeof state);
         expect("a state of zeros", call, 1, CSENGADRUL_NOT_SOUND, 0, 0);
         memset(state, 0xff, sizeof state);
@@ -791,6 +1200,25 @@ static void damaged_for_each_call(void) {
     }
     fresh();
     tick(0);
+}
+
+static void sizes(void) {
+    uint32_t i;
+    edges_of_sizes();
+    every_size();
+    refusals_of_sizes_in_order();
+    for (i = 0; i < 16; i++) busy_mailbox(i);
+    for (i = 1; i <= 32; i++) {
+        refusing_mailbox(i);
+        dropping_mailbox(i);
+    }
+    lowest_after_a_drop();
+    drops_with_all_in_use();
+    newest_alone();
+    waiters_at_a_dropping_mailbox();
+    sizes_and_fresh_starts();
+    damaged_sizes();
+    damaged_fillings();
 }
 
 static void all(void) {
@@ -816,6 +1244,7 @@ static void all(void) {
     names_of_all();
     any_births();
     slices_at_work();
+    sizes();
     fresh_images();
     refused_slices();
     damaged_slices();
@@ -842,7 +1271,7 @@ int main(void) {
     all();
     side = AT_THE_START;
     all();
-    count(codes_seen == 0x10001fffful, "every code from 0 to 16 and 32 was given");
+    count(codes_seen == 0x10007fffful, "every code from 0 to 18 and 32 was given");
     stack();
     printf("%u passed, %u failed\n", passed, failed);
     return failed != 0;

@@ -57,10 +57,11 @@ __attribute__((noinline)) static csengadrul_answer ask(const uint8_t *state, siz
     return answer;
 }
 
-__attribute__((noinline)) static csengadrul_answer make(enum call call, uint32_t number, uint8_t *at[KINDS], area areas[KINDS],
+__attribute__((noinline)) static csengadrul_answer make(enum call call, numbers given, uint8_t *at[KINDS], area areas[KINDS],
                                                         csengadrul_reason *reason) {
     uint8_t *state = at[STATE];
     size_t length = areas[STATE].told;
+    uint32_t number = given.number;
     csengadrul_answer none = {~(uint32_t)0, ~(uint32_t)0, ~(uint32_t)0};
     switch (call) {
     case FRESH: return csengadrul_fresh(state, length);
@@ -80,6 +81,7 @@ __attribute__((noinline)) static csengadrul_answer make(enum call call, uint32_t
     case LISTING: return csengadrul_listing(state, length, (csengadrul_row *)(void *)at[ROWS], areas[ROWS].told);
     case WHY: return ask(state, length, number, reason);
     case FRESH_SLICE: return csengadrul_fresh_slice(state, length, number);
+    case MAILBOX: return csengadrul_mailbox(state, length, number, given.capacity, given.mode);
     default: return none;
     }
 }
@@ -116,7 +118,7 @@ size_t lend_deepest(void) {
     return deepest;
 }
 
-outcome lend(enum call call, uint32_t number, area areas[KINDS]) {
+outcome lend(enum call call, numbers given, area areas[KINDS]) {
     static uint8_t untouched[GUARD];
     uint8_t *at[KINDS];
     outcome result;
@@ -131,7 +133,7 @@ outcome lend(enum call call, uint32_t number, area areas[KINDS]) {
     }
     memset(&result.reason, 0xff, sizeof result.reason);
     paint();
-    result.answer = make(call, number, at, areas, &result.reason);
+    result.answer = make(call, given, at, areas, &result.reason);
     look();
     result.changed = 0;
     result.escaped = 0;

@@ -24,8 +24,16 @@ enum call {
     WAIT,
     LISTING,
     WHY,
-    FRESH_SLICE
+    FRESH_SLICE,
+    MAILBOX
 };
+
+/* The numbers that a call takes besides areas. */
+typedef struct {
+    uint32_t number;   /* a class, name of a process, mailbox, semaphore or slice */
+    uint32_t capacity; /* what MAILBOX gives the mailbox; no other call takes these two */
+    uint32_t mode;
+} numbers;
 
 enum kind { STATE, STORE, MESSAGE, ROOM, ROWS, KINDS };
 
@@ -54,8 +62,8 @@ typedef struct {
 /* Maps the pages. Returns 0 where the machine has none. */
 int lend_begin(void);
 
-/* Makes one call with the number and the areas that it takes. */
-outcome lend(enum call call, uint32_t number, area areas[KINDS]);
+/* Makes one call with the numbers and the areas that it takes. */
+outcome lend(enum call call, numbers given, area areas[KINDS]);
 
 /* The most stack that a call has used so far, in bytes. 0 unless compiled with WATCH_STACK, which no
  * memory checker likes: the stack is painted before each call and looked at after it. */

@@ -20,7 +20,7 @@ static void expect(int holds, const char *what, unsigned long number) {
 }
 
 static int is_code(uint32_t number) {
-    return number <= 16 || number == 32;
+    return number <= 18 || number == 32;
 }
 
 static int is_place(uint32_t number) {

@@ -2,8 +2,8 @@
  * -Dcsengadrul_read=faulty_read or the like, and links it with this file. */
 #include "ring.h"
 
-#define CUT 16    /* bytes that are left of a message */
-#define DROPPED 5 /* the send that is lost */
+#define CUT 16 /* bytes that are left of a message */
+#define LOST 5 /* the send that is lost */
 #define STRAY (CSENGADRUL_OFFSET_COUNT + 2 * (CSENGADRUL_SEMAPHORES - 1)) /* in a sound state it may be anything */
 
 /* A long message is cut, and handed on as if it were whole. */
@@ -28,7 +28,14 @@ csengadrul_answer faulty_stop(uint8_t *state, size_t state_length, uint32_t name
 /* A send is lost, and the handler is told that it is in the ring. */
 int faulty_put_send(ring *r, uint32_t mailbox, const uint8_t *message, size_t message_length) {
     static unsigned sends;
-    return ++sends == DROPPED || ring_put_send(r, mailbox, message, message_length);
+    return ++sends == LOST || ring_put_send(r, mailbox, message, message_length);
+}
+
+/* Readings are refused where they should push out others. */
+csengadrul_answer faulty_mode(uint8_t *state, size_t state_length, uint32_t mailbox, uint32_t capacity,
+                              uint32_t mode) {
+    (void)mode;
+    return csengadrul_mailbox(state, state_length, mailbox, capacity, CSENGADRUL_REFUSES);
 }
 
 static uint8_t *state_area;

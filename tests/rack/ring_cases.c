@@ -1,5 +1,5 @@
-/* The interrupt ring of examples/rack, case by case: the order of its calls, a full ring, a full mailbox, messages of
- * every length, and counts that wrap around. */
+/* The interrupt ring of examples/rack, case by case: the order of its calls, a full ring, a full mailbox and one that
+ * drops, messages of every length, and counts that wrap around. */
 #include "ring.h"
 
 #include <stdio.h>
@@ -72,13 +72,25 @@ static void full_ring(uint32_t count) {
 static void full_mailbox(void) {
     int i;
     begin(0);
-    for (i = 0; i <= CSENGADRUL_MAILBOX_SIZE; i++) put_digit(i);
+    for (i = 0; i <= CSENGADRUL_USUAL_CAPACITY; i++) put_digit(i);
     ring_put_signal(&r, COUNTED);
     expect("the mailbox is full", drain() == CSENGADRUL_MAILBOX_FULL && drain() == CSENGADRUL_MAILBOX_FULL);
     expect("what is behind waits", r.put - r.taken == 2 && state[CSENGADRUL_OFFSET_COUNT + 2 * COUNTED] == 0);
     expect("a message is taken", next_is("0", 1));
     expect("the rest is done", drain() == CSENGADRUL_DONE && state[CSENGADRUL_OFFSET_COUNT + 2 * COUNTED] == 1);
-    for (i = 1; i <= CSENGADRUL_MAILBOX_SIZE; i++) expect("the order stays", next_is(&"012345678"[i], 1));
+    for (i = 1; i <= CSENGADRUL_USUAL_CAPACITY; i++) expect("the order stays", next_is(&"012345678"[i], 1));
+}
+
+/* One that drops holds nothing up. */
+static void dropping_mailbox(void) {
+    int i;
+    begin(0);
+    csengadrul_mailbox(state, sizeof state, BOX, 3, CSENGADRUL_DROPS);
+    for (i = 0; i < 8; i++) put_digit(i);
+    ring_put_signal(&r, COUNTED);
+    expect("all is done", drain() == CSENGADRUL_DONE && r.taken == r.put);
+    expect("what is behind too", state[CSENGADRUL_OFFSET_COUNT + 2 * COUNTED] == 1);
+    for (i = 5; i < 8; i++) expect("the newest are there, in order", next_is(&"01234567"[i], 1));
 }
 
 static void lengths(void) {
@@ -108,6 +120,7 @@ int main(void) {
     full_ring(RING_SIZE / 2);
     full_ring((uint32_t)0 - RING_SIZE / 2);
     full_mailbox();
+    dropping_mailbox();
     lengths();
     other_numbers();
     printf("%u passed, %u failed\n", passed, failed);

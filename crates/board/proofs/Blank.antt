@@ -7,4 +7,4 @@ use Rattle.kernel.specs.Holds.{IsSound}
 use Rattle.image.specs.Image.{blank}
 
 pub blank-unsound : IsSound blank → ⊥
-blank-unsound (s, H, S) = omega (arith, S .settings .some-ticks, ap (λ (x : Settings). x .slice) (H .settings))
+blank-unsound (s, H, S) = omega (arith, S .settings .some-ticks, ap (λ (x : Settings). x .slice) (H .settings .is))

@@ -1,7 +1,6 @@
 // The calls as the board's firmware makes them: numbers and lent areas of bytes in, an answer out.
 // Each reads the image that lies in the state area, makes the kernel's call and writes the next image back.
 ghost use Rattle.plain.specs.Calls as Plain;
-ghost use Rattle.plain.specs.Start.{sliceOf};
 ghost use Rattle.plain.specs.State.{usual};
 ghost use Rattle.reasons.specs.Reasons.{Explains};
 ghost use Rattle.board.specs.Area.{Lies, Plainly, Sends, Reads, Begins, HandedBack};
@@ -12,7 +11,7 @@ use kernel::Kernel;
 use reasons::Explained;
 
 // The bytes of a state area.
-pub const SIZE: usize = 476;
+pub const SIZE: usize = 508;
 
 const USUAL_SLICE: u32 = sizes::USUAL_SLICE as u32;
 
@@ -39,7 +38,7 @@ fn hand_back(state: &mut [u8], done: Done) -> Answer
 
 // The area becomes the image of a fresh kernel, whatever it held; where that is refused it stays as it is.
 fn begin(state: &mut [u8], slice: u32) -> Answer
-    ensures { λ r. ⌜ Begins (sliceOf slice) (now (state .entry)) (now (state .exit)) r ⌝ }
+    ensures { λ r. ⌜ Begins slice (now (state .entry)) (now (state .exit)) r ⌝ }
 {
     if state.len() != SIZE {
         return Answer {
@@ -58,14 +57,14 @@ fn begin(state: &mut [u8], slice: u32) -> Answer
 
 #[no_mangle]
 pub extern "C" fn csengadrul_fresh(state: &mut [u8]) -> Answer
-    ensures { λ r. ⌜ Begins usual (now (state .entry)) (now (state .exit)) r ⌝ }
+    ensures { λ r. ⌜ Begins (usual .slice) (now (state .entry)) (now (state .exit)) r ⌝ }
 {
     begin(state, USUAL_SLICE)
 }
 
 #[no_mangle]
 pub extern "C" fn csengadrul_fresh_slice(state: &mut [u8], slice: u32) -> Answer
-    ensures { λ r. ⌜ Begins (sliceOf slice) (now (state .entry)) (now (state .exit)) r ⌝ }
+    ensures { λ r. ⌜ Begins slice (now (state .entry)) (now (state .exit)) r ⌝ }
 {
     begin(state, slice)
 }
@@ -115,6 +114,19 @@ pub extern "C" fn csengadrul_tick(state: &mut [u8]) -> Answer
     ensures { λ r. ⌜ Plainly Plain.tick (now (state .entry)) (now (state .exit)) r ⌝ }
 {
     let done = image::read(state).tick();
+    hand_back(state, done)
+}
+
+#[no_mangle]
+pub extern "C" fn csengadrul_mailbox(
+    state: &mut [u8],
+    mailbox: u32,
+    capacity: u32,
+    mode: u32,
+) -> Answer
+    ensures { λ r. ⌜ Plainly (Plain.mailbox mailbox capacity mode) (now (state .entry)) (now (state .exit)) r ⌝ }
+{
+    let done = image::read(state).mailbox(mailbox, capacity, mode);
     hand_back(state, done)
 }
 

@@ -1,4 +1,4 @@
--- The sample of "The replay desk", with request 1's questions between its calls, and request 3's first lines, computed.
+-- The sample of "The replay desk", with request 1's questions between its calls, request 5's mailboxes, and request 3's first lines, computed.
 -- Assumes nothing.
 use Prim.Native.Nat.{ℕ}
 use Prim.Native.String.{String}
@@ -7,8 +7,9 @@ use mathlib.Core.List.{List, [], _∷_, map}
 use Rattle.lists.specs.Lists.{total, lowest}
 use Rattle.plain.specs.Calls.{perform, refusals, step}
 use Rattle.plain.specs.Names.{raised, name, bare, names}
+use Rattle.plain.specs.Mailboxes.{mostQueued, noSize, busy, refuses, overflows, relieved}
 use Rattle.plain.specs.Runs.{choose, chooseBelow, join, standDown, makeReady, goTo, remove, halt}
-use Rattle.plain.specs.Sizes.{capacity, bufferSize, longest, highestCount}
+use Rattle.plain.specs.Sizes.{bufferSize, longest, highestCount}
 use Rattle.plain.specs.Listing.{queueOf}
 use Rattle.plain.specs.Start.{longestSlice, freshStart}
 use Rattle.plain.specs.State.{spots, held, freeProcess, freeBuffer}
@@ -25,7 +26,7 @@ Lines = List (String × String)
 
 -- what is written for these lines, from the first on
 unfoldable pub shown : Lines → List (List ℕ)
-unfolding step refusals perform freshStart raised name bare names choose chooseBelow join standDown makeReady goTo remove halt spots total lowest held freeProcess freeBuffer capacity bufferSize longest highestCount longestSlice queueOf reasonIn reason why order digitsOf decimal words reasonLine
+unfolding step refusals perform freshStart raised name bare names choose chooseBelow join standDown makeReady goTo remove halt spots total lowest held freeProcess freeBuffer mostQueued noSize busy refuses overflows relieved bufferSize longest highestCount longestSlice queueOf reasonIn reason why order digitsOf decimal words reasonLine
 shown l = replies atFirst (map (λ (x : String × String). ascii (x .0)) l)
 
 abbrev meant : Lines → List (List ℕ)
@@ -73,6 +74,33 @@ sample =
 pub sample-written : shown sample ≡ meant sample
 unfolding shown
 sample-written = refl
+
+-- ---- request 5: meters that drop, a rider that does not
+
+abbrev habits : Lines
+habits =
+    ("mailbox 5 2 1", "0 0 0")
+    ∷ ("mailbox 6 1 0", "0 0 0")
+    ∷ ("mailbox 16 33 2", "3 0 0")
+    ∷ ("mailbox 5 33 0", "17 0 0")
+    ∷ ("mailbox 5 2", "bad")
+    ∷ ("send 5 31", "0 0 0")
+    ∷ ("send 5 32", "0 0 0")
+    ∷ ("send 5 33", "0 0 0")
+    ∷ ("send 6 6e6f", "0 0 0")
+    ∷ ("send 6 796573", "11 0 0")
+    ∷ ("mailbox 5 2 1", "18 0 0")
+    ∷ ("create 2", "0 257 1")
+    ∷ ("receive 5", "0 1 1")
+    ∷ ("read 9", "0 1 1 32")
+    ∷ ("release", "0 0 1")
+    ∷ ("receive 6", "0 2 1")
+    ∷ ("read 9", "0 2 1 6e6f")
+    ∷ []
+
+pub habits-written : shown habits ≡ meant habits
+unfolding shown
+habits-written = refl
 
 -- ---- request 3: which slice holds is seen by the tick at which the second process runs
 

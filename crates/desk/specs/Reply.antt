@@ -8,7 +8,7 @@ use lib.Dec.{eqb}
 use Rattle.lists.specs.Lists.{if_then_else_}
 use Rattle.plain.specs.Calls.{Call, Answer, Outcome, step}
 use Rattle.plain.specs.Names.{bare}
-use Rattle.plain.specs.Start.{sliceOf, freshStart}
+use Rattle.plain.specs.Start.{freshStart}
 use Rattle.plain.specs.State.{State, fresh}
 use Rattle.plain.specs.Why as Plain
 use Rattle.answers.specs.Answer.{line, readLine, bad}
@@ -32,7 +32,7 @@ later s = record { first = false; state = s }
 -- whether a call takes a room
 abbrev pub isRoom : Lent → Bool
 isRoom nothing = false
-isRoom (bytes b) = false
+isRoom (bytes b at) = false
 isRoom (room n) = true
 
 -- "code, number, running .. A successful read adds a space and the message in lowercase hex."
@@ -60,7 +60,7 @@ replyTo t (some (does c)) =
     record { text = textOf c (o .answer) (o .message); next = later (o .next) }
 replyTo t (some (why n)) = record { text = whyText (Plain.why (t .state) n .answer) (Plain.reason (t .state) (bare n)); next = later (t .state) }
 replyTo t (some (slice n)) =
-    let o : Outcome = freshStart (sliceOf n) in
+    let o : Outcome = freshStart n in
     if t .first then record { text = line (o .answer); next = later (o .next) } else badReply t
 
 abbrev pub reply : Stand → List ℕ → Reply

@@ -71,6 +71,7 @@ fn called(k: Kernel, call: Quiet) -> Done
         Quiet::Yield => k.yield_now(),
         Quiet::Class(n) => k.class(n),
         Quiet::Tick => k.tick(),
+        Quiet::Mailbox(m, capacity, mode) => k.mailbox(m, capacity, mode),
         Quiet::Receive(n) => k.receive(n),
         Quiet::Release => k.release(),
         Quiet::Signal(n) => k.signal(n),

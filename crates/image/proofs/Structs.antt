@@ -9,7 +9,7 @@ use Rattle.procs.specs.declared.Procs.{Procs}
 use Rattle.mail.specs.declared.Mail.{Mail}
 use Rattle.kernel.specs.declared.Kernel.{Kernel}
 use Rattle.kernel.specs.declared.Settings.{Settings}
-use Rattle.plain.specs.Sizes.{processes, buffers, semaphores}
+use Rattle.plain.specs.Sizes.{processes, mailboxes, buffers, semaphores}
 use Rattle.image.specs.Image.{nodes, boxNodes, queuesLong, procsLong, boxesLong, mailLong, settingsLong, size, pid, bid, queues, procs, boxes, mail, settings, image, U8, U16, U32, Array, Sized}
 use Rattle.image.proofs.Codes.{Code, both, through, array, byte-code, le-code}
 
@@ -32,7 +32,7 @@ abbrev FitsMail : Mail → Type 0
 FitsMail m = (((FitsBoxes (m .boxes) × Array processes FitsBid (m .hand)) × U32 (m .full .0)) × Array buffers U16 (m .length)) × U32 (m .free .0)
 
 abbrev FitsSettings : Settings → Type 0
-FitsSettings x = U8 (x .slice)
+FitsSettings x = (U8 (x .slice) × Array mailboxes U8 (x .capacity)) × Array mailboxes U8 (x .mode)
 
 abbrev FitsKernel : Kernel → Type 0
 FitsKernel k = (((FitsProcs (k .procs) × FitsMail (k .mail)) × Array semaphores U16 (k .count)) × Array processes U8 (k .births)) × FitsSettings (k .settings)
@@ -62,7 +62,9 @@ mail-code =
     (both (both (both (both boxes-code (array bid-code processes)) (le-code 4)) (array (le-code 2) buffers)) (le-code 4))
 
 settings-code : Code settings settingsLong FitsSettings
-settings-code = through (λ (x : Settings). x .slice) (λ n. record { slice = n }) (λ n. refl) (λ x. refl) byte-code
+settings-code =
+    through (λ (x : Settings). ((x .slice, x .capacity), x .mode)) (λ t. record { slice = t .0 .0; capacity = t .0 .1; mode = t .1 }) (λ t. refl) (λ x. refl)
+    (both (both byte-code (array byte-code mailboxes)) (array byte-code mailboxes))
 
 kernel-code : Code image size FitsKernel
 unfolding image
@@ -75,7 +77,7 @@ fits : (k : Kernel) → Sized k → FitsKernel k
 fits k s =
     let procs : FitsProcs (k .procs) = (((((s .running, s .class), s .ticks), (s .next, s .prev)), s .ready), s .unused) in
     let mail : FitsMail (k .mail) = (((((s .box-next, s .box-prev), s .hand), s .full), s .lengths), s .free) in
-    ((((procs, mail), s .count), s .births), s .slice)
+    ((((procs, mail), s .count), s .births), ((s .slice, s .capacity), s .mode))
 
 pub image-code : Code image size Sized
 image-code = record {
@@ -105,5 +107,7 @@ image-code = record {
           free = mail .1;
           count = f .0 .0 .1;
           births = f .0 .1;
-          slice = f .1;
+          slice = f .1 .0 .0;
+          capacity = f .1 .0 .1;
+          mode = f .1 .1;
         }

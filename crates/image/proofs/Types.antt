@@ -15,7 +15,7 @@ use Rattle.sizes.proofs.Pid as Pid
 use Rattle.sizes.proofs.Bid as Bid
 use Rattle.kernel.proofs.Kernel as Kernel
 use Rattle.kernel.specs.declared.Kernel.{Kernel}
-use Rattle.plain.specs.Sizes.{processes, buffers, semaphores}
+use Rattle.plain.specs.Sizes.{processes, mailboxes, buffers, semaphores}
 use Rattle.image.specs.Image.{nodes, boxNodes, U8, U16, Array, Sized}
 
 module _ (F : Field) (P : F .Value → Type 0) (fit : (x : F .Value) (vs : List Val) → Is (F .row) (F .into x) vs → P x) where
@@ -34,6 +34,7 @@ sized k vs p =
     let queues = procs .1 .1 .1 .0 .1 .1 in
     let mail = fields .1 .0 .1 .1 in
     let boxes = mail .0 .1 .1 in
+    let settings = fields .1 .1 .1 .1 .0 .1 .1 in
     let bytes = array u8-field U8 (λ x vs q. q .1) in
     let pids = array (field Pid.the-type) (λ p. U8 (p .0)) (λ x vs q. q .1 .1 .0 .1) in
     let bids = array (field Bid.the-type) (λ b. U8 (b .0)) (λ x vs q. q .1 .1 .0 .1) in
@@ -54,5 +55,7 @@ sized k vs p =
       free = mail .1 .1 .1 .1 .0 .1 .1 .0 .1;
       count = pairs semaphores (k .count) _ (fields .1 .1 .0);
       births = bytes processes (k .births) _ (fields .1 .1 .1 .0);
-      slice = fields .1 .1 .1 .1 .0 .1 .1 .0 .1;
+      slice = settings .0 .1;
+      capacity = bytes mailboxes (k .settings .capacity) _ (settings .1 .0);
+      mode = bytes mailboxes (k .settings .mode) _ (settings .1 .1 .0);
     }

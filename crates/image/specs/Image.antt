@@ -45,7 +45,7 @@ boxesLong = boxNodes + boxNodes
 abbrev pub mailLong : ℕ
 mailLong = boxesLong + processes + 4 + 2 * buffers + 4
 
--- the birth counts stand behind the counts, and the settings, the slice, behind these
+-- the birth counts stand behind the counts, and the settings behind these: the slice, the capacity of each mailbox, and the mode of each
 abbrev pub birthsAt : ℕ
 birthsAt = procsLong + mailLong + 2 * semaphores
 
@@ -53,9 +53,9 @@ abbrev pub settingsAt : ℕ
 settingsAt = birthsAt + processes
 
 abbrev pub settingsLong : ℕ
-settingsLong = 1
+settingsLong = 1 + mailboxes + mailboxes
 
--- 476
+-- 508
 abbrev pub size : ℕ
 size = settingsAt + settingsLong
 
@@ -78,7 +78,7 @@ abbrev pub mail : Mail → List ℕ
 mail m = boxes (m .boxes) ++ each bid (m .hand) ++ le 4 (m .full .0) ++ each (le 2) (m .length) ++ le 4 (m .free .0)
 
 abbrev pub settings : Settings → List ℕ
-settings x = byte (x .slice)
+settings x = byte (x .slice) ++ each byte (x .capacity) ++ each byte (x .mode)
 
 unfoldable pub image : Kernel → List ℕ
 image k = procs (k .procs) ++ mail (k .mail) ++ each (le 2) (k .count) ++ each byte (k .births) ++ settings (k .settings)
@@ -114,6 +114,8 @@ pub record Sized (k : Kernel) : Type 0 where
   pub count : Array semaphores U16 (k .count)
   pub births : Array processes U8 (k .births)
   pub slice : U8 (k .settings .slice)
+  pub capacity : Array mailboxes U8 (k .settings .capacity)
+  pub mode : Array mailboxes U8 (k .settings .mode)
 
 -- every field is zero
 abbrev pub blank : Kernel
@@ -135,7 +137,7 @@ blank = record {
   };
   count = replicate semaphores 0;
   births = replicate processes 0;
-  settings = record { slice = 0 };
+  settings = record { slice = 0; capacity = replicate mailboxes 0; mode = replicate mailboxes 0 };
 }
 
 -- what is read of an area: the kernel whose image it is, or zeros where it has another length

@@ -17,6 +17,7 @@ use procs::Procs;
 use queues::Queues;
 use sizes::Bid;
 use sizes::Bids;
+use sizes::MAILBOXES;
 use sizes::PROCESSES;
 use sizes::Pid;
 use sizes::Pids;
@@ -65,19 +66,17 @@ pub(crate) fn halfwords(area: &[u8], at: usize, out: &mut [u16])
     }
 }
 
-pub(crate) fn bytes(area: &[u8], at: usize) -> [u8; PROCESSES]
-    ensures { λ r. ⌜ Got at processes (each byte r) (now (area .entry)) ⌝ }
+pub(crate) fn bytes(area: &[u8], at: usize, out: &mut [u8])
+    ensures { λ _. ⌜ Got at (length (now (out .entry))) (each byte (now (out .exit))) (now (area .entry)) ⌝ }
 {
-    let mut out = [0u8; PROCESSES];
-    if !layout::has_room(area.len(), at, PROCESSES) {
-        return out;
+    if !layout::has_room(area.len(), at, out.len()) {
+        return;
     }
     let mut i = 0;
-    while i < PROCESSES {
+    while i < out.len() {
         out[i] = area[at + i];
         i += 1;
     }
-    out
 }
 
 pub(crate) fn links(area: &[u8], at: usize) -> [Pid; NODES]
@@ -129,8 +128,10 @@ pub(crate) fn procs(area: &[u8]) -> Procs
     ensures { λ r. ⌜ Got 0 procsLong (procs r) (now (area .entry)) ⌝ }
 {
     let running = Pid(byte(area, layout::RUNNING));
-    let class = bytes(area, layout::CLASS);
-    let ticks = bytes(area, layout::TICKS);
+    let mut class = [0u8; PROCESSES];
+    bytes(area, layout::CLASS, &mut class);
+    let mut ticks = [0u8; PROCESSES];
+    bytes(area, layout::TICKS, &mut ticks);
     let next = links(area, layout::NEXT);
     let prev = links(area, layout::PREV);
     let queues = Queues { next, prev };
@@ -169,6 +170,14 @@ pub(crate) fn mail(area: &[u8]) -> Mail
 pub(crate) fn settings(area: &[u8]) -> Settings
     ensures { λ r. ⌜ Got settingsAt settingsLong (settings r) (now (area .entry)) ⌝ }
 {
-    let slice = byte(area, layout::SETTINGS);
-    Settings { slice }
+    let slice = byte(area, layout::SLICE);
+    let mut capacity = [0u8; MAILBOXES];
+    bytes(area, layout::CAPACITY, &mut capacity);
+    let mut mode = [0u8; MAILBOXES];
+    bytes(area, layout::MODE, &mut mode);
+    Settings {
+        slice,
+        capacity,
+        mode,
+    }
 }

@@ -43,9 +43,13 @@ pub(crate) const COUNT: usize = FREE + 4;
 
 pub(crate) const BIRTHS: usize = COUNT + 2 * SEMAPHORES;
 
-pub(crate) const SETTINGS: usize = BIRTHS + PROCESSES;
+pub(crate) const SLICE: usize = BIRTHS + PROCESSES;
 
-pub(crate) const SIZE: usize = SETTINGS + 1;
+pub(crate) const CAPACITY: usize = SLICE + 1;
+
+pub(crate) const MODE: usize = CAPACITY + MAILBOXES;
+
+pub(crate) const SIZE: usize = MODE + MAILBOXES;
 
 // Whether w bytes from at on lie within n bytes.
 pub(crate) fn has_room(n: usize, at: usize, w: usize) -> bool

@@ -11,6 +11,7 @@ use queues::Queues;
 use sizes::BUFFERS;
 use sizes::Bid;
 use sizes::Bids;
+use sizes::MAILBOXES;
 use sizes::PROCESSES;
 use sizes::Pid;
 use sizes::Pids;
@@ -31,7 +32,8 @@ pub fn read(area: &[u8]) -> Kernel
     let mail = get::mail(area);
     let mut count = [0u16; SEMAPHORES];
     get::halfwords(area, layout::COUNT, &mut count);
-    let births = get::bytes(area, layout::BIRTHS);
+    let mut births = [0u8; PROCESSES];
+    get::bytes(area, layout::BIRTHS, &mut births);
     let settings = get::settings(area);
     Kernel {
         procs,
@@ -95,7 +97,12 @@ fn blank() -> Kernel
     };
     let count = [0u16; SEMAPHORES];
     let births = [0u8; PROCESSES];
-    let settings = Settings { slice: 0 };
+    let each = [0u8; MAILBOXES];
+    let settings = Settings {
+        slice: 0,
+        capacity: each,
+        mode: each,
+    };
     Kernel {
         procs,
         mail,

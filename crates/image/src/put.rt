@@ -134,5 +134,9 @@ pub(crate) fn births(area: &mut [u8], xs: [u8; PROCESSES])
 pub(crate) fn settings(area: &mut [u8], x: Settings)
     ensures { λ _. ⌜ Put settingsAt settingsLong (settings x) (now (area .entry)) (now (area .exit)) ⌝ }
 {
-    byte(area, layout::SETTINGS, x.slice);
+    byte(area, layout::SLICE, x.slice);
+    let capacity = x.capacity;
+    bytes(area, layout::CAPACITY, &capacity);
+    let mode = x.mode;
+    bytes(area, layout::MODE, &mode);
 }

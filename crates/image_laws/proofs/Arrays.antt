@@ -20,12 +20,16 @@ unfolding values
 values-long zero f = refl
 values-long (suc n) f = ap suc (values-long n (λ i. f (suc i)))
 
+-- where f is g from n on
+pub values-or : (n : ℕ) (f g : ℕ → ℕ) → ((i : ℕ) → n ≤ i → f i ≡ g i) → (i : ℕ) → getD (values n f) i (g i) ≡ f i
+unfolding values
+values-or zero f g z i = sym (z i (omega arith))
+values-or (suc n) f g z zero = refl
+values-or (suc n) f g z (suc i) = values-or n (λ j. f (suc j)) (λ j. g (suc j)) (λ j h. z (suc j) (omega arith)) i
+
 -- where f is 0 from n on
 pub values-at : (n : ℕ) (f : ℕ → ℕ) → ((i : ℕ) → n ≤ i → f i ≡ 0) → (i : ℕ) → getD (values n f) i 0 ≡ f i
-unfolding values
-values-at zero f z i = sym (z i (omega arith))
-values-at (suc n) f z zero = refl
-values-at (suc n) f z (suc i) = values-at n (λ j. f (suc j)) (λ j h. z (suc j) (omega arith)) i
+values-at n f = values-or n f (λ i. 0)
 
 -- what fits in each place
 module _ (F : ℕ → Type 0) where

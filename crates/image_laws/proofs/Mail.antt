@@ -35,7 +35,7 @@ mailOf box hand t = record {
   free = record { 0 = word width (isFree box hand) };
 }
 
-module _ (box : ℕ → List Message) (hand : ℕ → Option Message) (M : Sound.Mail box hand) where
+module _ {capacity : ℕ → ℕ} (box : ℕ → List Message) (hand : ℕ → Option Message) (M : Sound.Mail capacity box hand) where
   beyond : (m : ℕ) → mailboxes ≤ m → buffersOf (box m) ≡ []
   beyond m h = ap buffersOf (M .no-more-boxes m h)
 

@@ -1,7 +1,7 @@
 -- Every struct that holds a sound state is sized: its numbers fit their bytes.
 -- Assumes nothing.
 use Prim.Native.Nat.{ℕ, _+_, _^_, _≤_, _<_}
-use mathlib.Core.Path.{_≡_, ap}
+use mathlib.Core.Path.{_≡_, sym, ap, _∙_, subst}
 use mathlib.Core.Bool.{Bool}
 use mathlib.Core.Logic.{⊎-elim}
 use mathlib.Core.List.{List, map}
@@ -17,17 +17,20 @@ use Rattle.rings.specs.Units.{numbered}
 use Rattle.rings.proofs.Laws.{found}
 use Rattle.queues.specs.Queue as Queue
 use Rattle.boxes.specs.Box as Box
+use Rattle.plain.specs.Mailboxes.{mostQueued}
 use Rattle.plain.specs.Sizes.{processes, mailboxes, buffers, bufferSize, longest, semaphores, highestCount}
 use Rattle.plain.specs.Sound.{Sound}
 use Rattle.plain.specs.Sound as Plain
 use Rattle.plain.specs.Start.{longestSlice}
-use Rattle.plain.specs.State.{Message, Settings, State, buffersOf, inHand, held}
+use Rattle.plain.specs.State.{Message, Settings, State, usual, buffersOf, inHand, held}
 use Rattle.plain_laws.proofs.Seats.{runner-range}
 use Rattle.procs.specs.Stands as Stands
 use Rattle.plain_laws.proofs.Mail.{not-in-hand}
 use Rattle.mail.proofs.Held.{short-in-box, short-in-hand}
 use Rattle.mail.specs.Carries.{bufferIn}
 use Rattle.mail.specs.Carries as Carries
+use Rattle.habits.proofs.Laws as Habits
+use Rattle.habits.specs.Tables.{entryIn}
 use Rattle.kernel.specs.Holds.{Holds}
 use Rattle.kernel.specs.declared.Kernel.{Kernel}
 use Rattle.image.specs.Image.{U8, U16, U32, Array, Sized}
@@ -58,7 +61,7 @@ hand-small (some x) z = ⊎-elim (λ h. absurd (omega (arith, z (x .buffer) h, o
 -- ---- lengths of messages
 
 -- a buffer that is held has the length of its message, and a free one has 0
-short : {k : Carries.Numbers} {box : ℕ → List Message} {hand : ℕ → Option Message} → Carries.Carries k box hand → Plain.Mail box hand → (b : ℕ) → getD (k .length) b 0 ≤ longest
+short : {k : Carries.Numbers} {box : ℕ → List Message} {hand : ℕ → Option Message} → Carries.Carries k box hand → {capacity : ℕ → ℕ} → Plain.Mail capacity box hand → (b : ℕ) → getD (k .length) b 0 ≤ longest
 unfolding held
 short {k} {box} {hand} K M b = ⊎-elim
     (λ r. short-in-box (k .length) b (box (r .0)) (K .queued-lengths (r .0)) (M .queued-short (r .0)) (r .2))
@@ -70,10 +73,15 @@ short {k} {box} {hand} K M b = ⊎-elim
     (found b processes (λ p. inHand (hand p))))
     (found b mailboxes (λ m. buffersOf (box m)))
 
+-- ---- what is set of each mailbox
+
+entries-fit : (start f : ℕ → ℕ) (t : List ℕ) → length t ≡ mailboxes → f ≡ entryIn start t → ((m : ℕ) → U8 (f m)) → Array mailboxes U8 t
+entries-fit start f t long is small = fitting U8 mailboxes t long (λ m h. subst U8 (ap (λ (g : ℕ → ℕ). g m) is ∙ sym (Habits.inside t m 0 (start m) (omega arith))) (small m))
+
 -- ---- the whole
 
 pub sized : {k : Kernel} {s : State} → Holds k s → Sound s → Sized k
-unfolding Stands.numbers Carries.numbers Queue.tablesOf Box.tablesOf bufferSize longest highestCount longestSlice
+unfolding Stands.numbers Carries.numbers Queue.tablesOf Box.tablesOf bufferSize longest highestCount longestSlice mostQueued
 sized {k} {s} H S =
     let P = H .procs .stands in
     let K = H .mail in
@@ -93,7 +101,9 @@ sized {k} {s} H S =
       free = bits-fit (Carries.isFree (s .box) (s .hand)) (K .free);
       count = fitting U16 semaphores (k .count) (H .counts .long) (λ i h. omega (arith, H .counts .each i, S .counts .most i));
       births = fitting U8 processes (k .births) (H .births .long) (λ p h. omega (arith, H .births .each p, S .births .most p));
-      slice = omega (arith, ap (λ (x : Settings). x .slice) (H .settings), S .settings .not-over);
+      slice = omega (arith, ap (λ (x : Settings). x .slice) (H .settings .is), S .settings .not-over);
+      capacity = entries-fit (usual .capacity) (s .settings .capacity) (k .settings .capacity) (H .settings .capacities) (ap (λ (x : Settings). x .capacity) (H .settings .is)) (λ m. omega (arith, S .settings .sized .most m));
+      mode = entries-fit (usual .mode) (s .settings .mode) (k .settings .mode) (H .settings .modes) (ap (λ (x : Settings). x .mode) (H .settings .is)) (λ m. omega (arith, S .settings .sized .modes m));
     }
   where
     in-hand : (p : ℕ) → bufferIn (s .hand p) < buffers

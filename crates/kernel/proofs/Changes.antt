@@ -34,18 +34,18 @@ use Rattle.counts.proofs.Laws.{signalled-counted, claimed-counted}
 use Rattle.counts.specs.Counts as Counts
 use Rattle.names.proofs.Laws.{born-kept}
 use Rattle.names.specs.Counts as Names
-use Rattle.kernel.specs.Holds.{named, settingsOf, Holds}
+use Rattle.kernel.specs.Holds.{Sets, settingsOf, Holds}
 use Rattle.kernel.specs.Judged.{Made}
 use Rattle.kernel.specs.declared.Kernel.{Kernel}
 use Rattle.kernel.specs.declared.Settings as Code
 
-pub made-holds : {r : Kernel} {s : State} {p : Stands.Numbers} {m : Carries.Numbers} {c b : List ℕ} {x : Code.Settings} → Made r p m c b x → Stands.Keeps p (s .procs) → Carries.Carries m (s .box) (s .hand) → Counts.Counted c (s .count) → Names.Kept b (s .births) → s .settings ≡ named x → Holds r s
+pub made-holds : {r : Kernel} {s : State} {p : Stands.Numbers} {m : Carries.Numbers} {c b : List ℕ} {x : Code.Settings} → Made r p m c b x → Stands.Keeps p (s .procs) → Carries.Carries m (s .box) (s .hand) → Counts.Counted c (s .count) → Names.Kept b (s .births) → Sets x (s .settings) → Holds r s
 made-holds M P C N B e = record { procs = rw (M .procs) P; mail = rw (M .mail) C; counts = rw (M .count) N; births = rw (M .births) B; settings = rw (M .settings) e }
 
 module _ {k : Kernel} {s : State} (H : Holds k s) where
   -- the slice that k has is that of the state
   pub slice-is : settingsOf k .slice ≡ s .settings .slice
-  slice-is = ap (λ (t : Settings). t .slice) (sym (H .settings))
+  slice-is = ap (λ (t : Settings). t .slice) (sym (H .settings .is))
 
   -- only the processes move
   pub moved-holds : {procs : Procs′.Procs} {next : State.Procs} → Stands.Keeps (Stands.numbers procs) next → Holds (record { procs = procs; mail = k .mail; count = k .count; births = k .births; settings = k .settings }) (move next s)
@@ -103,7 +103,7 @@ module _ {k : Kernel} {s : State} (H : Holds k s) where
         go [] e = made-holds M (roused-kept (atMailbox m) [] (omega arith) e) (carries [] e) (H .counts) (H .births) (H .settings)
         go (w ∷ l) e = made-holds M (roused-kept (atMailbox m) (w ∷ l) (omega arith) e) (carries (w ∷ l) e) (H .counts) (H .births) (H .settings)
 
-    someone-first : (q : ℕ) (l : List ℕ) → s .procs .queue q ≡ l → ltb (Procs.firstOf procs q) processes ≡ someone l
+    pub someone-first : (q : ℕ) (l : List ℕ) → s .procs .queue q ≡ l → ltb (Procs.firstOf procs q) processes ≡ someone l
     someone-first q [] e = le-ltb (Procs.firstOf procs q) processes (first-none (H .procs .stands .queues) q e)
     someone-first q (w ∷ l) e = let f = first-some (H .procs .stands .queues) q w l e in lt-ltb (Procs.firstOf procs q) processes (omega (arith, f .0, f .1))
 

@@ -19,9 +19,10 @@ use Rattle.boxes.specs.Box as Box
 use Rattle.boxes.specs.Box.{num}
 use Rattle.plain.specs.Names.{Births}
 use Rattle.plain.specs.Sizes.{processes, mailboxes, buffers, semaphores}
+use Rattle.plain.specs.Sound.{Mail}
 use Rattle.plain.specs.Start.{Set}
 use Rattle.plain.specs.State as State
-use Rattle.plain.specs.State.{Message, State, buffersOf}
+use Rattle.plain.specs.State.{Message, Settings, State, buffersOf}
 use Rattle.procs.specs.Stands as Stands
 use Rattle.mail.specs.Carries as Carries
 use Rattle.names.proofs.Laws.{counts-are}
@@ -40,9 +41,17 @@ module _ (k : Kernel) where
   abbrev slice : ℕ
   slice = settingsOf k .slice
 
+  -- how many messages each mailbox takes
+  abbrev capacity : ℕ → ℕ
+  capacity = settingsOf k .capacity
+
+  -- the tables of settings have an entry for each mailbox
+  abbrev Wide : Type 0
+  Wide = (length (k .settings .capacity) ≡ mailboxes) × (length (k .settings .mode) ≡ mailboxes)
+
   pub not-set : (ok : Bool) → not ok ≡ true → Decides ok (Set (settingsOf k)) → IsSound k → ⊥
   not-set true e a s = true≢false (sym e)
-  not-set false e never (s, H, S) = never (subst Set (H .settings) (S .settings))
+  not-set false e never (s, H, S) = never (subst Set (H .settings .is) (S .settings))
 
   pub not-kept : (ok : Bool) → not ok ≡ true → Decides ok (Births (countIn (k .births))) → IsSound k → ⊥
   not-kept true e a s = true≢false (sym e)
@@ -52,9 +61,9 @@ module _ (k : Kernel) where
   not-seated true at e a s = true≢false (sym e)
   not-seated false at e (never, z) (s, H, S) = never (s .procs) (record { keeps = H .procs; seated = rw (slice-is H) (S .seated); highest = S .highest })
 
-  pub not-stocked : (ok : Bool) → not ok ≡ true → Stock.Decision (Carries.numbers (k .mail)) ok → IsSound k → ⊥
+  pub not-stocked : (ok : Bool) → not ok ≡ true → Stock.Decision (Carries.numbers (k .mail)) capacity ok → IsSound k → ⊥
   not-stocked true e a s = true≢false (sym e)
-  not-stocked false e never (s, H, S) = never (s .box) (s .hand) (record { carries = H .mail; mail = S .mail })
+  not-stocked false e never (s, H, S) = never (s .box) (s .hand) (record { carries = H .mail; mail = subst (λ (x : Settings). Mail (x .capacity) (s .box) (s .hand)) (H .settings .is) (S .mail) })
 
   module _ {box : ℕ → List Message} {hand : ℕ → Option Message} (C : Carries.Carries (Carries.numbers (k .mail)) box hand) where
     front-holds : (m : ℕ) (l : List Message) → box m ≡ l → ltb (first buffers mailboxes (Carries.numbers (k .mail) .tables) m) buffers ≡ someone l
@@ -92,21 +101,21 @@ module _ (k : Kernel) where
               (fits s at (k .mail .full .0) (isHolding (map num (k .mail .boxes .next))) is (holding-is (H .mail)) stands S p h h′);
         }
 
-    sound : {box : ℕ → List Message} {hand : ℕ → Option Message} → Set (settingsOf k) → Births (countIn (k .births)) → length (k .births) ≡ processes → Stock.Stocked (Carries.numbers (k .mail)) box hand → length (k .count) ≡ semaphores → ((i : ℕ) → getD (k .count) i 0 ≤ 65535) → All at → IsSound k
-    sound {box} {hand} X Y wide Q long low F =
+    sound : {box : ℕ → List Message} {hand : ℕ → Option Message} → Wide → Set (settingsOf k) → Births (countIn (k .births)) → length (k .births) ≡ processes → Stock.Stocked (Carries.numbers (k .mail)) capacity box hand → length (k .count) ≡ semaphores → ((i : ℕ) → getD (k .count) i 0 ≤ 65535) → All at → IsSound k
+    sound {box} {hand} W X Y wide Q long low F =
         let s : State = record { procs = r; box = box; hand = hand; count = λ i. getD (k .count) i 0; births = countIn (k .births); settings = settingsOf k } in (
           s,
-          record { procs = P .keeps; mail = Q .carries; counts = record { long = long; each = λ i. refl }; births = record { long = wide; each = λ p. refl }; settings = refl },
+          record { procs = P .keeps; mail = Q .carries; counts = record { long = long; each = λ i. refl }; births = record { long = wide; each = λ p. refl }; settings = record { is = refl; capacities = W .0; modes = W .1 } },
           whole s at (k .mail .full .0) (isHolding (map num (k .mail .boxes .next))) (full-is (Q .carries) ∙ Q .carries .full) (holding-is (Q .carries)) A X Y (P .seated) (P .highest) (Q .mail)
               (Q .carries .no-more-hands) (λ i. omega (arith, low i, top)) (λ i h. List·getD-eq-default (k .count) 0 (omega arith)) (F .null)
               (λ p h h′. rw (sym (runs r (P .keeps .stands))) (F .others p h h′)),
         )
 
-  pub decided : (set : Bool) → not set ≡ false → Decides set (Set (settingsOf k)) → (kept : Bool) → not kept ≡ false → Decides kept (Births (countIn (k .births))) → length (k .births) ≡ processes → length (k .count) ≡ semaphores → ((i : ℕ) → getD (k .count) i 0 ≤ 65535) → (ok : Bool) (at : List ℕ) → not ok ≡ false → Seats.Decision slice (Stands.numbers (k .procs)) ok at
-      → (stocked : Bool) → not stocked ≡ false → Stock.Decision (Carries.numbers (k .mail)) stocked → (b : Bool) → Decides b (All at) → Decides b (IsSound k)
-  decided false x X u y Y wide long low ok at e a o g c b f = absurd (true≢false x)
-  decided true x X false y Y wide long low ok at e a o g c b f = absurd (true≢false y)
-  decided true x X true y Y wide long low false at e a o g c b f = absurd (true≢false e)
-  decided true x X true y Y wide long low true at e a false g c b f = absurd (true≢false g)
-  decided true x X true y Y wide long low true at e (r, P, A) true g (box, hand, Q) true f = sound P A X Y wide Q long low f
-  decided true x X true y Y wide long low true at e (r, P, A) true g (box, hand, Q) false f = λ s. f (all P A s)
+  pub decided : Wide → (set : Bool) → not set ≡ false → Decides set (Set (settingsOf k)) → (kept : Bool) → not kept ≡ false → Decides kept (Births (countIn (k .births))) → length (k .births) ≡ processes → length (k .count) ≡ semaphores → ((i : ℕ) → getD (k .count) i 0 ≤ 65535) → (ok : Bool) (at : List ℕ) → not ok ≡ false → Seats.Decision slice (Stands.numbers (k .procs)) ok at
+      → (stocked : Bool) → not stocked ≡ false → Stock.Decision (Carries.numbers (k .mail)) capacity stocked → (b : Bool) → Decides b (All at) → Decides b (IsSound k)
+  decided W false x X u y Y wide long low ok at e a o g c b f = absurd (true≢false x)
+  decided W true x X false y Y wide long low ok at e a o g c b f = absurd (true≢false y)
+  decided W true x X true y Y wide long low false at e a o g c b f = absurd (true≢false e)
+  decided W true x X true y Y wide long low true at e a false g c b f = absurd (true≢false g)
+  decided W true x X true y Y wide long low true at e (r, P, A) true g (box, hand, Q) true f = sound P A W X Y wide Q long low f
+  decided W true x X true y Y wide long low true at e (r, P, A) true g (box, hand, Q) false f = λ s. f (all P A s)

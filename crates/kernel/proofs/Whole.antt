@@ -64,7 +64,7 @@ module _ (s : State) (at : List ℕ) (full : ℕ) (holding : ℕ → Bool) (is-f
       }
 
   -- where each process fits, sound processes and sound mail make a sound state
-  pub whole : Settled (s .settings) → Births (s .births) → Seated (s .settings .slice) (s .procs) → Highest (s .procs) → Mail (s .box) (s .hand) → ((p : ℕ) → processes ≤ p → s .hand p ≡ none) → ((i : ℕ) → s .count i ≤ highestCount)
+  pub whole : Settled (s .settings) → Births (s .births) → Seated (s .settings .slice) (s .procs) → Highest (s .procs) → Mail (s .settings .capacity) (s .box) (s .hand) → ((p : ℕ) → processes ≤ p → s .hand p ≡ none) → ((i : ℕ) → s .count i ≤ highestCount)
       → ((i : ℕ) → semaphores ≤ i → s .count i ≡ 0) → bits full 0 ≡ false
       → ((p : ℕ) → 1 ≤ p → p < processes → WaitFits (getD at p 0) (eqb p (s .procs .running)) (bits full p) holding (s .count)) → Sound s
   whole settings births seated highest mail no-more-hands counts no-more-counts null fit =

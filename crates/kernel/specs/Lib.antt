@@ -4,3 +4,4 @@ pub mod Theorems
 pub mod Names
 pub mod Facts
 pub mod Judged
+pub mod Full

@@ -1,6 +1,5 @@
 // The kernel: its state by value, the decision whether a state is sound, and every call as a method that hands back the next state beside the answer.
 ghost use mathlib.Core.Path.{_≡_};
-ghost use Rattle.plain.specs.Start.{sliceOf};
 ghost use Rattle.plain.specs.State.{start};
 ghost use Rattle.kernel.specs.Holds.{named, Holds};
 ghost use Rattle.kernel.specs.Facts.{Gathered};
@@ -12,14 +11,17 @@ use verdicts::Facts;
 use verdicts::Verdict;
 
 mod letters;
+mod mailboxes;
 mod processes;
 mod semaphores;
 mod setup;
 mod sound;
 
-// What is set at the fresh start: the ticks of a full slice.
+// What is set: the ticks of a full slice, at the fresh start; how many messages each mailbox takes, and its mode, by a call too.
 pub struct Settings {
     pub slice: u8,
+    pub capacity: [u8; sizes::MAILBOXES],
+    pub mode: [u8; sizes::MAILBOXES],
 }
 
 pub struct Kernel {
@@ -63,15 +65,13 @@ impl Kernel {
 
     // A fresh start with a slice named. Where that is refused the usual one holds.
     pub fn fresh_start(slice: u32) -> Done
-        ensures { λ r. ⌜ Starts (sliceOf slice) r ⌝ }
+        ensures { λ r. ⌜ Starts slice r ⌝ }
     {
         let v = verdicts::on_fresh_start(slice);
         if v.code != 0 {
             return Kernel::fresh(Settings::usual()).refuse(v);
         }
-        let settings = Settings {
-            slice: (slice % 256) as u8,
-        };
+        let settings = Settings::of_slice((slice % 256) as u8);
         Kernel::fresh(settings).answer(0, 0)
     }
 
@@ -148,6 +148,13 @@ impl Kernel {
         ensures { λ r. ⌜ r ≡ record { procs = self .procs; mail = self .mail; count = self .count; births = next; settings = self .settings } ⌝ }
     {
         self.births = next;
+        self
+    }
+
+    fn with_settings(mut self, next: Settings) -> Kernel
+        ensures { λ r. ⌜ r ≡ record { procs = self .procs; mail = self .mail; count = self .count; births = self .births; settings = next } ⌝ }
+    {
+        self.settings = next;
         self
     }
 

@@ -21,7 +21,8 @@ impl Kernel {
             return false;
         }
         let mail = self.mail;
-        if !stock::stocked(mail) {
+        let capacity = settings.capacity;
+        if !stock::stocked(mail, capacity) {
             return false;
         }
         let at = found.at;

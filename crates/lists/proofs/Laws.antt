@@ -101,6 +101,15 @@ lowest-passes i (suc n) t d = go (t i) refl d (λ b. lowest-passes (suc i) n t b
     go true e d′ ih = (omega arith, omega arith, e)
     go false e d′ ih = let b = ih (λ x. d′ (omega arith)) in (omega arith, omega arith, b .2)
 
+-- and it is none above one that passes
+pub lowest-most : (i n p : ℕ) (t : ℕ → Bool) → i ≤ p → p < i + n → t p ≡ true → lowest i n t ≤ p
+unfolding lowest
+lowest-most i zero p t a b e = absurd (omega arith)
+lowest-most i (suc n) p t a b e = ⊎-elim
+    (λ (y : t i ≡ true). rw y a)
+    (λ (x : t i ≡ false). rw x (lowest-most (suc i) n p t (⊎-elim (λ (d : i ≡ p). absurd (true≢false (sym e ∙ (ap t (sym d) ∙ x)))) (λ d. omega arith) (same? i p)) (omega arith) e))
+    (either (t i))
+
 -- the lowest number is known by passing where none below it does
 pub lowest-is : (i n p : ℕ) (t : ℕ → Bool) → i ≤ p → p < i + n → t p ≡ true → ((j : ℕ) → i ≤ j → j < p → t j ≡ false) → lowest i n t ≡ p
 unfolding lowest

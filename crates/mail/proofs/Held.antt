@@ -1,4 +1,4 @@
--- In how many places a buffer is held, as messages are queued, handed over, fetched and let go.
+-- In how many places a buffer is held, as messages come into a mailbox or a hand and leave it.
 -- Assumes nothing.
 use Prim.Native.Nat.{ℕ, _+_, _≤_, _<_}
 use mathlib.Core.Path.{_≡_, refl, sym, ap, _∙_}
@@ -38,18 +38,13 @@ module _ (box : ℕ → List Message) (hand : ℕ → Option Message) (b : ℕ) 
   pub held-given : (p : ℕ) (x : Message) → p < processes → hand p ≡ none → held box (put hand p (some x)) b ≡ held box hand b + occurs b (lies x)
   held-given p x h e = omega (arith, held-hand box hand p (some x) b h, ap (λ (a : Option Message). occurs b (inHand a)) e)
 
-  -- the first message of mailbox m goes into the empty hand of p
-  pub held-fetched : (m p : ℕ) (x : Message) (l : List Message) → m < mailboxes → p < processes → box m ≡ x ∷ l → hand p ≡ none
-      → held (put box m l) (put hand p (some x)) b ≡ held box hand b
-  held-fetched m p x l hm hp e empty =
-      omega (
-        arith,
-        held-hand (put box m l) hand p (some x) b hp,
-        held-box box hand m l b hm,
-        ap (λ (a : Option Message). occurs b (inHand a)) empty,
-        ap (λ (a : List Message). occurs b (buffersOf a)) e,
-        occurs-append b (lies x) (buffersOf l),
-      )
+  -- mailbox m loses its first message
+  pub held-lost : (m : ℕ) (x : Message) (l : List Message) → m < mailboxes → box m ≡ x ∷ l → held (put box m l) hand b + occurs b (lies x) ≡ held box hand b
+  held-lost m x l h e = omega (arith, held-box box hand m l b h, ap (λ (a : List Message). occurs b (buffersOf a)) e, occurs-append b (lies x) (buffersOf l))
+
+  -- the hand of p loses its message
+  pub held-let-go : (p : ℕ) (x : Message) → p < processes → hand p ≡ some x → held box (put hand p none) b + occurs b (lies x) ≡ held box hand b
+  held-let-go p x h e = omega (arith, held-hand box hand p none b h, ap (λ (a : Option Message). occurs b (inHand a)) e)
 
 -- a buffer in which a message lies is as long as the message
 module _ (lengths : List ℕ) (b : ℕ) where

@@ -15,7 +15,7 @@ use Rattle.bits.specs.Word.{width, bits}
 use Rattle.bits.proofs.Words.{word-below, word-has, word-lowest, bits-above}
 use Rattle.rings.specs.Moves.{isEmpty as isEmptyRing}
 use Rattle.rings.proofs.Looks.{first-some, at-least, says-empty}
-use Rattle.plain.specs.Sizes.{processes, mailboxes, capacity, buffers}
+use Rattle.plain.specs.Sizes.{processes, mailboxes, buffers}
 use Rattle.plain.specs.State.{Message, State, buffersOf, freeBuffer}
 use Rattle.plain.specs.Calls.{isEmpty, bytesIn}
 use Rattle.mail.specs.Carries.{Numbers, bufferIn, isFull, isFree, AsLong, LongInHand, Carries}
@@ -43,9 +43,9 @@ buffers-nil (x ∷ l) = refl
 
 module _ {k : Numbers} {box : ℕ → List Message} {hand : ℕ → Option Message} (K : Carries k box hand) where
   module _ (m : ℕ) where
-    pub full-box : isFullBox k m ≡ leb capacity (length (box m))
+    pub full-box : (n : ℕ) → isFullBox k m n ≡ leb n (length (box m))
     unfolding isFullBox
-    full-box = at-least (K .boxes) m capacity ∙ ap (leb capacity) (buffers-length (box m))
+    full-box n = at-least (K .boxes) m n ∙ ap (leb n) (buffers-length (box m))
 
     pub empty-box : isEmptyBox k m ≡ not (someone (box m))
     unfolding isEmptyBox isEmptyRing

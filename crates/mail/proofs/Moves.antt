@@ -7,29 +7,32 @@ use mathlib.Core.Logic.{_≢_, ⊎-elim}
 use mathlib.Core.List.{List, [], _∷_, _++_}
 use mathlib.Core.Option.{Option, none, some}
 use native.Mathlib.Omega.{arith}
-use lib.ListN.{length, getD, set, length-set}
+use lib.ListN.{length, getD, set, drop, length-set}
 use lib.Seq.{getD-set-same}
 use lib.Dec.{eqb}
 use borrow.Author.Tests.{eq-eqb, ne-eqb, lt-ltb, le-ltb}
-use Rattle.lists.specs.Lists.{if_then_else_, put, one, occurs, without}
+use Rattle.lists.specs.Lists.{if_then_else_, put, one, occurs}
 use Rattle.lists.proofs.Laws as Laws
-use Rattle.lists.proofs.Laws.{le?, put-cases, one-same, one-other, taken-out}
+use Rattle.lists.proofs.Laws.{le?, put-cases, one-same, one-other}
 use Rattle.bits.specs.Word.{width, word}
 use Rattle.bits.proofs.Words.{word-same}
 use Rattle.rings.specs.Ring.{Rings, Absent}
-use Rattle.rings.specs.Moves.{joinRear, leave}
-use Rattle.rings.proofs.Laws.{once, one-queue}
+use Rattle.rings.specs.Moves.{joinRear, leave, first}
+use Rattle.rings.proofs.Laws.{taken-from}
 use Rattle.rings.proofs.Looks.{first-some, fresh-rings}
 use Rattle.rings.proofs.Moves.{rear, left}
 use Rattle.plain.specs.Sizes.{processes, mailboxes, buffers}
-use Rattle.plain.specs.State.{Message, State, lies, buffersOf, inHand, held}
+use Rattle.plain.specs.State.{Message, State, lies, buffersOf, held}
 use Rattle.plain.specs.Calls.{isEmpty, deliver}
+use Rattle.plain.specs.Mailboxes as Mailboxes
+use Rattle.plain.specs.Mailboxes.{overflows}
 use Rattle.plain.specs.Sound.{Mail}
 use Rattle.mail.specs.Carries.{Numbers, bufferIn, isFree, AsLong, LongInHand, Carries}
-use Rattle.mail.specs.Moves.{freshMail, filled, freed, given, emptied, queuedLast, handedOver, delivered, fetched, letGo}
+use Rattle.mail.specs.Moves.{freshMail, filled, freed, given, emptied, queuedLast, handedOver, delivered, oldestDropped, relieved, fetched, letGo}
 use Rattle.mail.proofs.Looks.{has-message, in-hand}
-use Rattle.plain_laws.proofs.Mail.{held-hand, not-queued, not-in-hand}
-use Rattle.mail.proofs.Held.{buffers-append, held-nowhere, held-queued, held-given, held-fetched}
+use Rattle.plain_laws.proofs.Mail.{not-queued, not-in-hand}
+use Rattle.plain_laws.proofs.Relief.{relieved-cases, overflow-full}
+use Rattle.mail.proofs.Held.{buffers-append, held-nowhere, held-queued, held-given, held-lost, held-let-go}
 use Rattle.mail.proofs.Parts.{put-kept, buffers-put, hands-put, no-more-put, full-put, free-put, zeros-put, long-queue, long-hand, long-rear}
 
 pub fresh-carries : Carries freshMail (λ m. []) (λ p. none)
@@ -118,63 +121,110 @@ module _ {k : Numbers} {box : ℕ → List Message} {hand : ℕ → Option Messa
           free = free-bits box (put hand p (some x)) more;
         }
 
-  -- the first message of mailbox m goes into the empty hand of p
-  module _ (m p : ℕ) (x : Message) (l : List Message) (hm : m < mailboxes) (hp : p < processes) (e : box m ≡ x ∷ l) (empty : hand p ≡ none) where
-    first-is : buffersOf (box m) ≡ x .buffer ∷ buffersOf l
-    first-is = ap buffersOf e
+  -- message x is lost, and box′ and hand′ are left: its buffer becomes free
+  module _ {capacity : ℕ → ℕ} (M : Mail capacity box hand) (x : Message) (box′ : ℕ → List Message) (hand′ : ℕ → Option Message)
+      (less : (i : ℕ) → held box′ hand′ i + occurs i (lies x) ≡ held box hand i) where
+    abbrev lengths-left : List ℕ
+    lengths-left = set (k .length) (x .buffer) 0
 
-    gone : _≡_ {A = ℕ → List ℕ} (λ i. without (x .buffer) (buffersOf (box i))) (λ i. buffersOf (put box m l i))
-    gone =
-        let b : ℕ = x .buffer in
-        let there : occurs b (buffersOf (box m)) ≡ 1 + occurs b (buffersOf l) = omega (arith, ap (occurs b) first-is, one-same b) in
-        let away : (i : ℕ) → i ≢ m → occurs b (buffersOf (box i)) ≡ 0 =
-        λ i d. ⊎-elim (λ o. absurd (d (one-queue (K .boxes) i m b o (omega arith)))) (λ z. omega arith) (le? 1 (occurs b (buffersOf (box i)))) in
-        taken-out b m (λ i. buffersOf (box i)) [] (buffersOf l) first-is refl (omega (arith, once (K .boxes) m b)) away ∙ buffers-put box m l
+    untouched : (i : ℕ) → i ≢ x .buffer → held box′ hand′ i ≡ held box hand i
+    untouched i d = omega (arith, less i, one-other (x .buffer) i (λ e. d (sym e)))
 
-    pub fetched-carries : Carries (fetched k m p) (put box m l) (put hand p (some x))
-    unfolding fetched given
-    fetched-carries =
-        let same : (i : ℕ) → held (put box m l) (put hand p (some x)) i ≡ held box hand i = λ i. held-fetched box hand i m p x l hm hp e empty in
-        let was : AsLong (k .length) (x ∷ l) = subst (AsLong (k .length)) e (K .queued-lengths m) in
-        rw (first-some (K .boxes) m (x .buffer) (buffersOf l) first-is .0)
+    now-free : held box′ hand′ (x .buffer) ≡ 0
+    now-free = omega (arith, less (x .buffer), one-same (x .buffer), M .held-once (x .buffer))
+
+    in-range : x .buffer < length (k .length)
+    in-range = ⊎-elim
+        (λ h. absurd (omega (arith, less (x .buffer), one-same (x .buffer), M .no-more-buffers (x .buffer) h)))
+        (λ h. omega (arith, K .lengths-long))
+        (le? buffers (x .buffer))
+
+    long-in-boxes : ((m : ℕ) → mailboxes ≤ m → buffersOf (box′ m) ≡ []) → ((m : ℕ) → AsLong (k .length) (box′ m)) → (m : ℕ) → AsLong lengths-left (box′ m)
+    long-in-boxes beyond long m = long-queue (k .length) (x .buffer) 0 (box′ m) (not-queued box′ hand′ (x .buffer) now-free beyond m) (long m)
+
+    long-in-hands : ((p : ℕ) → processes ≤ p → hand′ p ≡ none) → ((p : ℕ) → LongInHand (k .length) (hand′ p)) → (p : ℕ) → LongInHand lengths-left (hand′ p)
+    long-in-hands beyond long p = long-hand (k .length) (x .buffer) 0 (hand′ p) (not-in-hand box′ hand′ (x .buffer) now-free beyond p) (long p)
+
+    zeros-left : (i : ℕ) → held box′ hand′ i ≡ 0 → getD lengths-left i 0 ≡ 0
+    zeros-left = zeros-put box box′ hand hand′ (x .buffer) untouched (k .length) 0 in-range (λ z. refl) (K .free-lengths)
+
+    free-left : freed k (x .buffer) .free ≡ word width (isFree box′ hand′)
+    unfolding freed
+    free-left = free-put box box′ hand hand′ (x .buffer) untouched true (eq-eqb (held box′ hand′ (x .buffer)) 0 now-free) (K .free)
+
+  -- the first message of mailbox m leaves it
+  module _ (m : ℕ) (x : Message) (l : List Message) (hm : m < mailboxes) (e : box m ≡ x ∷ l) where
+    first-is : first buffers mailboxes (k .tables) m ≡ x .buffer
+    first-is = first-some (K .boxes) m (x .buffer) (buffersOf l) (ap buffersOf e) .0
+
+    gone : Rings buffers mailboxes (leave buffers mailboxes (k .tables) (x .buffer)) (λ i. buffersOf (put box m l i))
+    gone = subst (Rings buffers mailboxes (leave buffers mailboxes (k .tables) (x .buffer)))
+        (taken-from (K .boxes) m (x .buffer) [] (buffersOf l) (ap buffersOf e) ∙ buffers-put box m l)
+        (left (K .boxes) (x .buffer))
+
+    was-long : AsLong (k .length) (x ∷ l)
+    was-long = subst (AsLong (k .length)) e (K .queued-lengths m)
+
+    rest-long : (i : ℕ) → AsLong (k .length) (put box m l i)
+    rest-long i = put-cases (AsLong (k .length)) box m l i (λ d. was-long .1) (λ d. K .queued-lengths i)
+
+    oldest-carries : {capacity : ℕ → ℕ} → Mail capacity box hand → Carries (oldestDropped k m) (put box m l) hand
+    unfolding oldestDropped freed
+    oldest-carries M =
+        let less : (i : ℕ) → held (put box m l) hand i + occurs i (lies x) ≡ held box hand i = λ i. held-lost box hand i m x l hm e in
+        rw first-is
         (record {
-          hands-long = length-set (k .hand) p (x .buffer) ∙ K .hands-long;
-          lengths-long = K .lengths-long;
-          boxes = subst (Rings buffers mailboxes (leave buffers mailboxes (k .tables) (x .buffer))) gone (left (K .boxes) (x .buffer));
-          hands = hands-put hand p (some x) (k .hand) (omega (arith, K .hands-long)) (K .hands);
-          no-more-hands = no-more-put hand p (some x) hp (K .no-more-hands);
-          full = full-put hand p (some x) (K .full);
-          queued-lengths = λ i. put-cases (AsLong (k .length)) box m l i (λ d. was .1) (λ d. K .queued-lengths i);
-          hand-lengths = λ i. put-cases (LongInHand (k .length)) hand p (some x) i (λ d. was .0) (λ d. K .hand-lengths i);
-          free-lengths = λ i z. K .free-lengths i (sym (same i) ∙ z);
-          free = K .free ∙ word-same width (isFree box hand) (isFree (put box m l) (put hand p (some x))) (λ i h. ap (λ (c : ℕ). eqb c 0) (sym (same i)));
+          hands-long = K .hands-long;
+          lengths-long = length-set (k .length) (x .buffer) 0 ∙ K .lengths-long;
+          boxes = gone;
+          hands = K .hands;
+          no-more-hands = K .no-more-hands;
+          full = K .full;
+          queued-lengths = long-in-boxes M x (put box m l) hand less (gone .beyond) rest-long;
+          hand-lengths = long-in-hands M x (put box m l) hand less (K .no-more-hands) (K .hand-lengths);
+          free-lengths = zeros-left M x (put box m l) hand less;
+          free = free-left M x (put box m l) hand less;
         })
 
+  -- the first message of mailbox m goes into the empty hand of p
+  pub fetched-carries : (m p : ℕ) (x : Message) (l : List Message) → m < mailboxes → p < processes → box m ≡ x ∷ l → hand p ≡ none → Carries (fetched k m p) (put box m l) (put hand p (some x))
+  unfolding fetched given
+  fetched-carries m p x l hm hp e empty =
+      let same : (i : ℕ) → held (put box m l) (put hand p (some x)) i ≡ held box hand i =
+      λ i. held-given (put box m l) hand i p x hp empty ∙ held-lost box hand i m x l hm e in
+      rw (first-is m x l hm e)
+      (record {
+        hands-long = length-set (k .hand) p (x .buffer) ∙ K .hands-long;
+        lengths-long = K .lengths-long;
+        boxes = gone m x l hm e;
+        hands = hands-put hand p (some x) (k .hand) (omega (arith, K .hands-long)) (K .hands);
+        no-more-hands = no-more-put hand p (some x) hp (K .no-more-hands);
+        full = full-put hand p (some x) (K .full);
+        queued-lengths = rest-long m x l hm e;
+        hand-lengths = λ i. put-cases (LongInHand (k .length)) hand p (some x) i (λ d. was-long m x l hm e .0) (λ d. K .hand-lengths i);
+        free-lengths = λ i z. K .free-lengths i (sym (same i) ∙ z);
+        free = K .free ∙ word-same width (isFree box hand) (isFree (put box m l) (put hand p (some x))) (λ i h. ap (λ (c : ℕ). eqb c 0) (sym (same i)));
+      })
+
   -- the hand of p becomes empty
-  module _ (M : Mail box hand) (p : ℕ) (hp : p < processes) where
-    dropped : (x : Message) → hand p ≡ some x → Carries (emptied (freed k (x .buffer)) p) box (put hand p none)
+  module _ {capacity : ℕ → ℕ} (M : Mail capacity box hand) (p : ℕ) (hp : p < processes) where
+    emptied-carries : (x : Message) → hand p ≡ some x → Carries (emptied (freed k (x .buffer)) p) box (put hand p none)
     unfolding emptied freed
-    dropped x e =
-        let b : ℕ = x .buffer in
+    emptied-carries x e =
         let hand′ : ℕ → Option Message = put hand p none in
-        let less : (i : ℕ) → held box hand′ i + occurs i (lies x) ≡ held box hand i =
-        λ i. omega (arith, held-hand box hand p none i hp, ap (λ (a : Option Message). occurs i (inHand a)) e) in
-        let others : (i : ℕ) → i ≢ b → held box hand′ i ≡ held box hand i = λ i d. omega (arith, less i, one-other b i (λ z. d (sym z))) in
-        let now-free : held box hand′ b ≡ 0 = omega (arith, less b, one-same b, M .held-once b) in
-        let hb : b < buffers = ⊎-elim (λ h. absurd (omega (arith, less b, one-same b, M .no-more-buffers b h))) (λ h. h) (le? buffers b) in
+        let less : (i : ℕ) → held box hand′ i + occurs i (lies x) ≡ held box hand i = λ i. held-let-go box hand i p x hp e in
         let no-more = no-more-put hand p none hp (K .no-more-hands) in
         record {
           hands-long = length-set (k .hand) p 0 ∙ K .hands-long;
-          lengths-long = length-set (k .length) b 0 ∙ K .lengths-long;
+          lengths-long = length-set (k .length) (x .buffer) 0 ∙ K .lengths-long;
           boxes = K .boxes;
           hands = hands-put hand p none (k .hand) (omega (arith, K .hands-long)) (K .hands);
           no-more-hands = no-more;
           full = full-put hand p none (K .full);
-          queued-lengths = λ i. long-queue (k .length) b 0 (box i) (not-queued box hand′ b now-free (K .boxes .beyond) i) (K .queued-lengths i);
-          hand-lengths = λ i. long-hand (k .length) b 0 (hand′ i) (not-in-hand box hand′ b now-free no-more i)
-              (put-cases (LongInHand (k .length)) hand p none i (λ d. tt) (λ d. K .hand-lengths i));
-          free-lengths = zeros-put box box hand hand′ b others (k .length) 0 (omega (arith, K .lengths-long)) (λ z. refl) (K .free-lengths);
-          free = free-put box box hand hand′ b others true (eq-eqb (held box hand′ b) 0 now-free) (K .free);
+          queued-lengths = long-in-boxes M x box hand′ less (K .boxes .beyond) (K .queued-lengths);
+          hand-lengths = long-in-hands M x box hand′ less no-more (λ i. put-cases (LongInHand (k .length)) hand p none i (λ d. tt) (λ d. K .hand-lengths i));
+          free-lengths = zeros-left M x box hand′ less;
+          free = free-left M x box hand′ less;
         }
 
     pub let-go-carries : Carries (letGo k p) box (put hand p none)
@@ -183,7 +233,19 @@ module _ {k : Numbers} {box : ℕ → List Message} {hand : ℕ → Option Messa
       where
         go : (h : Option Message) → hand p ≡ h → Carries (if not (isEmpty h) then emptied (freed k (bufferIn h)) p else k) box (put hand p none)
         go none e = subst (Carries k box) (put-kept hand p none e) K
-        go (some x) e = dropped x e
+        go (some x) e = emptied-carries x e
+
+-- a mailbox that overflows loses its first message; it has one, since it takes one at least
+pub relieved-carries : {k : Numbers} (s : State) → Carries k (s .box) (s .hand) → Mail (s .settings .capacity) (s .box) (s .hand) → (m : ℕ) → m < mailboxes → 1 ≤ s .settings .capacity m
+    → Carries (relieved k m (overflows m s)) (Mailboxes.relieved m s .box) (Mailboxes.relieved m s .hand)
+unfolding relieved
+relieved-carries {k} s K M m hm takes = relieved-cases m s (λ t. Carries (relieved k m (overflows m s)) (t .box) (t .hand))
+    (λ z. rw z K)
+    (λ o. rw o (lose (s .box m) refl (omega (arith, overflow-full m s o))))
+  where
+    lose : (l : List Message) → s .box m ≡ l → 1 ≤ length l → Carries (oldestDropped k m) (put (s .box) m (drop 1 l)) (s .hand)
+    lose [] e h = absurd (omega arith)
+    lose (x ∷ l) e h = oldest-carries K m x l hm e M
 
 -- w is the first of those who wait at mailbox m, with an empty hand, or no process where nobody waits: message x of n bytes, in buffer b, is delivered
 pub delivered-carries : {k : Numbers} (s : State) → Carries k (s .box) (s .hand) → (b n : ℕ) (x : Message) → b < buffers → held (s .box) (s .hand) b ≡ 0 → x .buffer ≡ b → length (x .bytes) ≡ n

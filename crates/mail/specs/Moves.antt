@@ -1,4 +1,4 @@
--- What the struct becomes as messages are delivered, fetched and let go, and what is read off it, in its numbers.
+-- What the struct becomes as messages are delivered, dropped, fetched and let go, and what is read off it, in its numbers.
 -- Total: a mailbox, process or buffer number past the last leaves what it would change as it is. Assumes nothing.
 use Prim.Native.Nat.{ℕ}
 use mathlib.Core.Bool.{Bool, true, false}
@@ -8,7 +8,7 @@ use Rattle.lists.specs.Lists.{if_then_else_, put, lowest}
 use Rattle.bits.specs.Word.{width, word, bits}
 use Rattle.rings.specs.Ring.{Tables}
 use Rattle.rings.specs.Moves.{fresh, joinRear, leave, first, isEmpty, holdsAtLeast}
-use Rattle.plain.specs.Sizes.{processes, mailboxes, capacity, buffers}
+use Rattle.plain.specs.Sizes.{processes, mailboxes, buffers}
 use Rattle.mail.specs.Carries.{Numbers}
 
 -- ---- what is read
@@ -17,8 +17,9 @@ use Rattle.mail.specs.Carries.{Numbers}
 unfoldable pub lowestFree : Numbers → ℕ
 lowestFree k = lowest 0 width (bits (k .free))
 
-unfoldable pub isFullBox : Numbers → ℕ → Bool
-isFullBox k m = holdsAtLeast buffers mailboxes (k .tables) m capacity
+-- mailbox m, which takes n messages, is full
+unfoldable pub isFullBox : Numbers → ℕ → ℕ → Bool
+isFullBox k m n = holdsAtLeast buffers mailboxes (k .tables) m n
 
 unfoldable pub isEmptyBox : Numbers → ℕ → Bool
 isEmptyBox k m = isEmpty buffers mailboxes (k .tables) m
@@ -101,6 +102,16 @@ handedOver k p b n = given (filled k b n) p b
 -- buffer b takes a message of n bytes for mailbox m: w, the first who waits there, gets it in hand; where w is no process, it is queued last
 unfoldable pub delivered : Numbers → ℕ → ℕ → ℕ → ℕ → Numbers
 delivered k m w b n = if ltb w processes then handedOver k w b n else queuedLast k m b n
+
+-- the first buffer of mailbox m leaves it and becomes free
+unfoldable pub oldestDropped : Numbers → ℕ → Numbers
+oldestDropped k m =
+    let b : ℕ = first buffers mailboxes (k .tables) m in
+    relinked (freed k b) (leave buffers mailboxes (k .tables) b)
+
+-- mailbox m drops its oldest message, or nothing changes
+unfoldable pub relieved : Numbers → ℕ → Bool → Numbers
+relieved k m drops = if drops then oldestDropped k m else k
 
 -- the first message of mailbox m goes into the hand of process p
 unfoldable pub fetched : Numbers → ℕ → ℕ → Numbers

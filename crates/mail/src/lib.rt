@@ -5,7 +5,7 @@ ghost use mathlib.Core.List.{map};
 ghost use lib.ListN.{getD, set};
 ghost use Rattle.boxes.specs.Box.{num};
 ghost use Rattle.mail.specs.Carries.{numbers};
-ghost use Rattle.mail.specs.Moves.{lowestFree, isFullBox, isEmptyBox, hasMessage, handAt, lengthInHand, firstLength, freshMail, filled, freed, given, emptied, queuedLast, handedOver, delivered, fetched, letGo};
+ghost use Rattle.mail.specs.Moves.{lowestFree, isFullBox, isEmptyBox, hasMessage, handAt, lengthInHand, firstLength, freshMail, filled, freed, given, emptied, queuedLast, handedOver, delivered, oldestDropped, relieved, fetched, letGo};
 use boxes::Boxes;
 use sizes::Bid;
 use sizes::Bids;
@@ -15,8 +15,6 @@ use sizes::Pids;
 const PROCESSES: u8 = sizes::PROCESSES as u8;
 
 const BUFFERS: u8 = sizes::BUFFERS as u8;
-
-const CAPACITY: u32 = sizes::CAPACITY as u32;
 
 // A bit for each buffer.
 const ALL: u32 = 4294967295;
@@ -99,11 +97,12 @@ impl Mail {
         bits::lowest_bit(self.free.0)
     }
 
-    pub fn is_full_box(self, m: u32) -> bool
-        ensures { λ r. ⌜ r ≡ isFullBox (numbers self) m ⌝ }
+    // Whether mailbox m, which takes n messages, is full.
+    pub fn is_full_box(self, m: u32, n: u32) -> bool
+        ensures { λ r. ⌜ r ≡ isFullBox (numbers self) m n ⌝ }
     {
         let queues = self.boxes;
-        queues.holds_at_least(m, CAPACITY)
+        queues.holds_at_least(m, n)
     }
 
     pub fn is_empty_box(self, m: u32) -> bool
@@ -226,6 +225,25 @@ impl Mail {
         } else {
             self.queue_last(m, b, n)
         }
+    }
+
+    // The first buffer of mailbox m leaves it and becomes free: its oldest message is lost.
+    fn drop_oldest(self, m: u32) -> Mail
+        ensures { λ r. ⌜ numbers r ≡ oldestDropped (numbers self) m ⌝ }
+    {
+        let queues = self.boxes;
+        let b = queues.first(m);
+        let rest = queues.leave(b);
+        let mut next = self.set_free(b);
+        next.boxes = rest;
+        next
+    }
+
+    // What a send to mailbox m finds: where `drops` holds, its oldest message is dropped first.
+    pub fn relieve(self, m: u32, drops: bool) -> Mail
+        ensures { λ r. ⌜ numbers r ≡ relieved (numbers self) m drops ⌝ }
+    {
+        if drops { self.drop_oldest(m) } else { self }
     }
 
     // The first message of mailbox m goes into the hand of p.

@@ -6,12 +6,13 @@ use mathlib.Core.List.{List, [], _∷_, _++_, map}
 use native.Mathlib.Omega.{arith}
 use lib.ListN.{replicate}
 use Rattle.lists.specs.Lists.{total, lowest}
-use Rattle.plain.specs.Sizes.{capacity, bufferSize, longest, highestCount}
-use Rattle.plain.specs.State.{State, fresh, spots, held, freeProcess, freeBuffer}
+use Rattle.plain.specs.Sizes.{bufferSize, longest, highestCount}
+use Rattle.plain.specs.State.{Message, State, fresh, spots, held, freeProcess, freeBuffer}
 use Rattle.plain.specs.Names.{born, raised, name, bare, names}
+use Rattle.plain.specs.Mailboxes.{mostQueued, noSize, busy, refuses, overflows, relieved}
 use Rattle.plain.specs.Runs.{choose, chooseBelow, join, standDown, makeReady, goTo, remove, halt}
-use Rattle.plain.specs.Calls.{Call, Answer, create, stop, end, yield, class, tick, send, receive, read, release, signal, wait, perform, refusals, step, answers, after}
-use Rattle.plain.specs.Start.{longestSlice, sliceOf, freshStart}
+use Rattle.plain.specs.Calls.{Call, Answer, create, stop, end, yield, class, tick, mailbox, send, receive, read, release, signal, wait, perform, refusals, step, answers, after}
+use Rattle.plain.specs.Start.{longestSlice, freshStart}
 use Rattle.plain.specs.Listing.{Row, row, queueOf}
 use Rattle.plain.specs.Why.{ready, semaphore, Says, reasonIn, reason, why, Numbers, numbers}
 
@@ -31,7 +32,7 @@ shown a = (a .0 .code, a .0 .number, a .0 .running)
 
 -- what the script of a row answers from s on, and how far semaphore 15 counts after it; and what the row says of both
 unfoldable pub got : State → List Line → List (ℕ × ℕ × ℕ) × ℕ
-unfolding answers after step refusals perform freshStart raised name bare names choose chooseBelow join standDown makeReady goTo remove halt spots total lowest held freeProcess freeBuffer capacity bufferSize longest highestCount longestSlice
+unfolding answers after step refusals perform freshStart raised name bare names mostQueued noSize busy refuses overflows relieved choose chooseBelow join standDown makeReady goTo remove halt spots total lowest held freeProcess freeBuffer bufferSize longest highestCount longestSlice
 got s l = (map shown (answers s (script l)), (after s (script l)) .count 15)
 
 abbrev pub told : List Line → List (ℕ × ℕ × ℕ) × ℕ
@@ -67,7 +68,7 @@ table =
 
 -- "Older units and stored replay scripts were tuned to 3; each place that relied on it now names 3"
 abbrev pub tuned : State
-tuned = freshStart (sliceOf 3) .next
+tuned = freshStart 3 .next
 
 pub table-holds : map (got tuned) table ≡ map told table
 unfolding got
@@ -85,7 +86,7 @@ untuned-holds = refl
 
 -- What a fresh start answers, and the slice that holds after it: "16 for a slice outside 1 to 255 .. if refused, 5 holds".
 abbrev pub started : ℕ → ℕ × ℕ × ℕ × ℕ
-started n = let a : Answer = freshStart (sliceOf n) .answer in (a .code, a .number, a .running, freshStart (sliceOf n) .next .settings .slice)
+started n = let a : Answer = freshStart n .answer in (a .code, a .number, a .running, freshStart n .next .settings .slice)
 
 pub starts-shown : map started (0 ∷ 1 ∷ 3 ∷ 255 ∷ 256 ∷ []) ≡ (16, 0, 0, 5) ∷ (0, 0, 0, 1) ∷ (0, 0, 0, 3) ∷ (0, 0, 0, 255) ∷ (16, 0, 0, 5) ∷ []
 unfolding got
@@ -130,6 +131,38 @@ asked cs n = why (after fresh cs) n .answer .code
 pub asked-shown : map (asked (create 1 ∷ stop 257 ∷ [])) (0 ∷ 256 ∷ 1 ∷ 257 ∷ 513 ∷ 2 ∷ 258 ∷ 31 ∷ 32 ∷ 288 ∷ 65537 ∷ []) ≡ 0 ∷ 1 ∷ 1 ∷ 0 ∷ 1 ∷ 0 ∷ 1 ∷ 0 ∷ 1 ∷ 1 ∷ 1 ∷ []
 unfolding got why
 asked-shown = refl
+
+-- Request 5: 3, then 17, then 18, also where nothing would change; a full mailbox that drops loses its oldest and keeps the rest in order, and one that refuses gives 11.
+abbrev pub habits : List (List Line)
+habits =
+    (mailbox 16 0 2 ⇒ (3, 0, 0) ∷ send 5 abc ⇒ (0, 0, 0) ∷ mailbox 5 0 0 ⇒ (17, 0, 0) ∷ mailbox 5 33 1 ⇒ (17, 0, 0) ∷ mailbox 5 1 2 ⇒ (17, 0, 0) ∷ mailbox 5 8 0 ⇒ (18, 0, 0) ∷ mailbox 6 32 1 ⇒ (0, 0, 0) ∷ [])
+    ∷ (create 1 ⇒ (0, 257, 1) ∷ receive 5 ⇒ (32, 0, 0) ∷ mailbox 5 8 0 ⇒ (18, 0, 0) ∷ send 5 abc ⇒ (0, 0, 1) ∷ mailbox 5 1 0 ⇒ (0, 0, 1) ∷ [])
+    ∷ (mailbox 5 2 1 ⇒ (0, 0, 0) ∷ send 5 [] ⇒ (0, 0, 0) ∷ send 5 (1 ∷ []) ⇒ (0, 0, 0) ∷ send 5 abc ⇒ (0, 0, 0) ∷ create 1 ⇒ (0, 257, 1) ∷ receive 5 ⇒ (0, 1, 1) ∷ release ⇒ (0, 0, 1) ∷ receive 5 ⇒ (0, 3, 1) ∷ release ⇒ (0, 0, 1) ∷ receive 5 ⇒ (32, 0, 0) ∷ [])
+    ∷ (mailbox 5 1 0 ⇒ (0, 0, 0) ∷ send 5 abc ⇒ (0, 0, 0) ∷ send 5 [] ⇒ (11, 0, 0) ∷ create 1 ⇒ (0, 257, 1) ∷ receive 5 ⇒ (0, 3, 1) ∷ [])
+    ∷ []
+
+pub habits-shown : map (got tuned) habits ≡ map told habits
+unfolding got
+habits-shown = refl
+
+-- The buffers in which the messages of mailbox 5 lie, which takes two: the one that is dropped is the lowest free one; with a lower one free that is taken; with room for it nothing is dropped.
+abbrev pub laid : List Call → List ℕ
+laid cs = map (λ (x : Message). x .buffer) (after tuned cs .box 5)
+
+pub drops-shown : map laid ((mailbox 5 2 1 ∷ send 5 [] ∷ send 5 [] ∷ send 5 abc ∷ [])
+    ∷ (mailbox 5 2 1 ∷ send 0 [] ∷ send 5 [] ∷ send 5 [] ∷ create 1 ∷ receive 0 ∷ release ∷ send 5 abc ∷ [])
+    ∷ (mailbox 5 3 1 ∷ send 5 [] ∷ send 5 [] ∷ send 5 abc ∷ [])
+    ∷ []) ≡ (1 ∷ 0 ∷ []) ∷ (2 ∷ 0 ∷ []) ∷ (0 ∷ 1 ∷ 2 ∷ []) ∷ []
+unfolding got
+drops-shown = refl
+
+-- All 32 buffers are in use, 31 of them in mailbox 5: a send to it drops its oldest, whose buffer is the only free one; one to mailbox 6, which drops too but is not full, gets 12.
+abbrev pub filled : List Call
+filled = mailbox 5 31 1 ∷ mailbox 6 2 1 ∷ send 6 [] ∷ replicate 31 (send 5 [])
+
+pub all-in-use : map shown (answers (after tuned filled) (send 6 abc ∷ send 5 abc ∷ [])) ≡ (12, 0, 0) ∷ (0, 0, 0) ∷ []
+unfolding got
+all-in-use = refl
 
 -- The listing while 1 runs with a message in hand and two ticks left, 2 and 3 are ready, 4 waits at semaphore 15 and 5 at mailbox 7: the rows of 0 to 6.
 abbrev pub listed : List Call

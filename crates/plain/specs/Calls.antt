@@ -7,9 +7,10 @@ use mathlib.Core.Option.{Option, none, some}
 use lib.ListN.{length}
 use lib.Dec.{ltb, leb, eqb}
 use Rattle.lists.specs.Lists.{if_then_else_}
-use Rattle.plain.specs.Sizes.{processes, classes, mailboxes, capacity, buffers, longest, semaphores, highestCount, atMailbox, atSemaphore}
-use Rattle.plain.specs.State.{Message, Procs, State, level, line, rank, left, move, give, fill, score, unused, freeProcess, freeBuffer}
+use Rattle.plain.specs.Sizes.{processes, classes, mailboxes, longest, semaphores, highestCount, atMailbox, atSemaphore}
+use Rattle.plain.specs.State.{Message, Procs, State, level, line, rank, left, move, give, fill, score, unused, freeProcess}
 use Rattle.plain.specs.Names.{born, raised, name, bare, names}
+use Rattle.plain.specs.Mailboxes.{allot, noSize, busy, refuses, relieved, bufferFor, noBuffer}
 use Rattle.plain.specs.Runs.{makeReady, goTo, halt}
 
 pub data Call : Type 0 where
@@ -19,6 +20,7 @@ pub data Call : Type 0 where
   yield : Call
   class : ℕ → Call
   tick : Call
+  mailbox : ℕ → ℕ → ℕ → Call
   send : ℕ → List ℕ → Call
   receive : ℕ → Call
   read : ℕ → Call
@@ -122,7 +124,8 @@ perform s end = done 0 (stopped (caller s) s)
 perform s yield = done 0 (move (yielded (s .settings .slice) (s .procs)) s)
 perform s (class c) = done 0 (move (regraded (s .settings .slice) c (s .procs)) s)
 perform s tick = done 0 (move (ticked (s .settings .slice) (s .procs)) s)
-perform s (send m b) = done 0 (deliver m (record { buffer = freeBuffer s; bytes = b }) (s .procs .queue (atMailbox m)) s)
+perform s (mailbox m c d) = done 0 (allot m c d s)
+perform s (send m b) = done 0 (deliver m (record { buffer = bufferFor m s; bytes = b }) (s .procs .queue (atMailbox m)) (relieved m s))
 perform s (receive m) = fetch m (s .box m) s
 perform s (read room) = answering 0 (length (bytesIn (hand s))) (bytesIn (hand s)) s
 perform s release = done 0 (give (caller s) none s)
@@ -180,14 +183,6 @@ shortRoom room s = let n : ℕ = length (bytesIn (hand s)) in record { code = 9;
 abbrev pub noUnused : State → Refusal
 noUnused s = on 10 (eqb (freeProcess (s .procs)) processes)
 
--- "11: mailbox holds 8 (send only)"
-abbrev pub fullBox : ℕ → State → Refusal
-fullBox m s = on 11 (leb capacity (length (s .box m)))
-
--- "12: no free buffer (send only)"
-abbrev pub noBuffer : State → Refusal
-noBuffer s = on 12 (eqb (freeBuffer s) buffers)
-
 -- "13: signal at 65,535"
 abbrev pub fullCount : ℕ → State → Refusal
 fullCount k s = on 13 (eqb (s .count k) highestCount)
@@ -199,7 +194,8 @@ refusals s end = idle s ∷ []
 refusals s yield = idle s ∷ []
 refusals s (class c) = idle s ∷ noClass c ∷ []
 refusals s tick = []
-refusals s (send m b) = noMailbox m ∷ tooLong b ∷ fullBox m s ∷ noBuffer s ∷ []
+refusals s (mailbox m c d) = noMailbox m ∷ on 17 (noSize c d) ∷ on 18 (busy m s) ∷ []
+refusals s (send m b) = noMailbox m ∷ tooLong b ∷ on 11 (refuses m s) ∷ on 12 (noBuffer m s) ∷ []
 refusals s (receive m) = idle s ∷ noMailbox m ∷ fullHand s ∷ []
 refusals s (read room) = idle s ∷ emptyHand s ∷ shortRoom room s ∷ []
 refusals s release = idle s ∷ emptyHand s ∷ []

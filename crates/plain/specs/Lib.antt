@@ -1,6 +1,7 @@
 pub mod Sizes
 pub mod State
 pub mod Names
+pub mod Mailboxes
 pub mod Runs
 pub mod Calls
 pub mod Start

@@ -10,12 +10,9 @@ processes = 32
 abbrev pub classes : ℕ
 classes = 5
 
--- "Mailboxes: 0 to 15, 8 queued messages each"
+-- "Mailboxes: 0 to 15"
 abbrev pub mailboxes : ℕ
 mailboxes = 16
-
-unfoldable pub capacity : ℕ
-capacity = 8
 
 -- "Buffers: 0 to 31, 512 bytes each; buffer b starts at byte 512 b of the store"
 abbrev pub buffers : ℕ

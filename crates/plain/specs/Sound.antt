@@ -7,7 +7,7 @@ use mathlib.Core.List.{List, [], _∷_}
 use mathlib.Core.Option.{Option, none, some}
 use lib.ListN.{length}
 use Rattle.lists.specs.Lists.{occurs}
-use Rattle.plain.specs.Sizes.{processes, classes, mailboxes, capacity, buffers, longest, semaphores, highestCount, atMailbox, atSemaphore, queues}
+use Rattle.plain.specs.Sizes.{processes, classes, mailboxes, buffers, longest, semaphores, highestCount, atMailbox, atSemaphore, queues}
 use Rattle.plain.specs.State.{Message, Procs, State, level, places, held}
 use Rattle.plain.specs.Names.{Births}
 use Rattle.plain.specs.Start.{Set}
@@ -51,15 +51,15 @@ pub record Seated (slice : ℕ) (s : Procs) : Type 0 where
 abbrev pub Highest : Procs → Type 0
 Highest s = (c : ℕ) → c < classes → (s .running ≢ 0 → level s (s .running) < c) → s .queue c ≡ []
 
-pub record Mail (box : ℕ → List Message) (hand : ℕ → Option Message) : Type 0 where
+pub record Mail (capacity : ℕ → ℕ) (box : ℕ → List Message) (hand : ℕ → Option Message) : Type 0 where
   -- "Each buffer is free, queued in one mailbox, or in the hand of one process; the three groups together are the 32 buffers, none twice."
   pub held-once : (b : ℕ) → held box hand b ≤ 1
   pub no-more-buffers : (b : ℕ) → buffers ≤ b → held box hand b ≡ 0
   -- "A buffer that isn't free has a length of 0 to 512"
   pub queued-short : (m : ℕ) → AllShort (box m)
   pub hands-short : (p : ℕ) → Short (hand p)
-  -- "At most 8 messages are queued in a mailbox"
-  pub at-most : (m : ℕ) → length (box m) ≤ capacity
+  -- "At most 8 messages are queued in a mailbox": by request 5 as many as it takes
+  pub at-most : (m : ℕ) → length (box m) ≤ capacity m
   pub no-more-boxes : (m : ℕ) → mailboxes ≤ m → box m ≡ []
 
 -- "Unused processes, process 0 and mailbox waiters have empty hands."
@@ -82,7 +82,7 @@ pub record Sound (s : State) : Type 0 where
   pub settings : Set (s .settings)
   pub seated : Seated (s .settings .slice) (s .procs)
   pub highest : Highest (s .procs)
-  pub mail : Mail (s .box) (s .hand)
+  pub mail : Mail (s .settings .capacity) (s .box) (s .hand)
   pub hands : Hands (s .procs) (s .hand)
   pub waits : Waits (s .procs) (s .box) (s .count)
   pub counts : Counts (s .count)

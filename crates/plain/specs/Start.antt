@@ -4,7 +4,8 @@ use Prim.Native.Nat.{ℕ, _≤_}
 use mathlib.Core.Bool.{_||_}
 use mathlib.Core.List.{List, [], _∷_}
 use lib.Dec.{ltb, eqb}
-use Rattle.plain.specs.State.{Settings, start, fresh}
+use Rattle.plain.specs.State.{Settings, start, usual, fresh}
+use Rattle.plain.specs.Mailboxes.{Sized}
 use Rattle.plain.specs.Calls.{Refusal, on, Outcome, done, judge}
 
 -- "the slice as a setting, 1 to 255"
@@ -14,19 +15,20 @@ longestSlice = 255
 pub record Set (settings : Settings) : Type 0 where
   pub some-ticks : 1 ≤ settings .slice
   pub not-over : settings .slice ≤ longestSlice
+  pub sized : Sized (settings .capacity) (settings .mode)
 
 -- where n ticks are named
 abbrev pub sliceOf : ℕ → Settings
-sliceOf n = record { slice = n }
+sliceOf n = record { slice = n; capacity = usual .capacity; mode = usual .mode }
 
 -- "16 for a slice outside 1 to 255"
-abbrev pub noSlice : Settings → Refusal
-noSlice x = on 16 (eqb (x .slice) 0 || ltb longestSlice (x .slice))
+abbrev pub noSlice : ℕ → Refusal
+noSlice n = on 16 (eqb n 0 || ltb longestSlice n)
 
 -- 14 is judged before it and belongs to the code, as with every call
-abbrev pub startRefusals : Settings → List Refusal
-startRefusals x = noSlice x ∷ []
+abbrev pub startRefusals : ℕ → List Refusal
+startRefusals n = noSlice n ∷ []
 
 -- It looks at no state, so that 0 runs in every answer; "if refused, 5 holds".
-unfoldable pub freshStart : Settings → Outcome
-freshStart x = judge (startRefusals x) fresh (done 0 (start x))
+unfoldable pub freshStart : ℕ → Outcome
+freshStart n = judge (startRefusals n) fresh (done 0 (start (sliceOf n)))

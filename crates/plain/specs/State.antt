@@ -20,9 +20,11 @@ pub record Procs : Type 0 where
   pub class : ℕ → ℕ
   pub ticks : ℕ → ℕ
 
--- What is set at the fresh start.
+-- What is set: the ticks of a slice; how many messages each mailbox takes, and its mode, 0 or 1 (request 5).
 pub record Settings : Type 0 where
   pub slice : ℕ
+  pub capacity : ℕ → ℕ
+  pub mode : ℕ → ℕ
 
 -- And each process's hand, each mailbox's messages from first to last, each semaphore's count, and each number's birth count (request 4).
 pub record State : Type 0 where
@@ -37,9 +39,9 @@ pub record State : Type 0 where
 abbrev pub start : Settings → State
 start x = record { procs = record { running = 0; queue = λ q. []; class = λ p. 0; ticks = λ p. 0 }; hand = λ p. none; box = λ m. []; count = λ k. 0; births = λ p. 0; settings = x }
 
--- request 3: "5 when none is named"
+-- request 3: "5 when none is named"; request 5: "all sixteen start as 8, refusing"
 abbrev pub usual : Settings
-usual = record { slice = 5 }
+usual = record { slice = 5; capacity = λ m. 8; mode = λ m. 0 }
 
 abbrev pub fresh : State
 fresh = start usual

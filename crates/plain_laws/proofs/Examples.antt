@@ -5,14 +5,15 @@ use mathlib.Core.Bool.{true}
 use mathlib.Core.Path.{_≡_, refl}
 use mathlib.Core.List.{List, [], _∷_}
 use Rattle.lists.specs.Lists.{total, lowest}
-use Rattle.plain.specs.Sizes.{capacity, bufferSize, longest}
+use Rattle.plain.specs.Sizes.{bufferSize, longest}
 use Rattle.plain.specs.State.{State, start, spots, held, freeProcess, freeBuffer}
 use Rattle.plain.specs.Names.{raised, name, bare, names}
+use Rattle.plain.specs.Mailboxes.{mostQueued, noSize, busy, refuses, overflows, relieved}
 use Rattle.plain.specs.Runs.{choose, chooseBelow, join, standDown, makeReady, goTo, remove, halt}
-use Rattle.plain.specs.Calls.{Call, create, stop, end, tick, send, receive, perform, refusals, step, after}
+use Rattle.plain.specs.Calls.{Call, create, stop, end, tick, mailbox, send, receive, perform, refusals, step, after}
 use Rattle.plain.specs.Start.{sliceOf}
 use Rattle.plain_laws.specs.Names.{bornIn, stoppedIn}
-use Rattle.plain_laws.specs.History.{isDone, sent, gone, countAhead, moments, ticksSeen, turnsBefore}
+use Rattle.plain_laws.specs.History.{isDone, sent, gone, dropped, countAhead, moments, ticksSeen, turnsBefore}
 
 -- the state that calls lead to from fresh, with 3 ticks to a slice
 abbrev tuned : State
@@ -20,7 +21,7 @@ tuned = start (sliceOf 3)
 
 -- the state that calls lead to from there
 unfoldable reached : List Call → State
-unfolding after step refusals perform raised name bare names choose chooseBelow join standDown makeReady goTo remove halt spots total lowest held freeProcess freeBuffer capacity bufferSize longest
+unfolding after step refusals perform raised name bare names choose chooseBelow join standDown makeReady goTo remove halt spots total lowest held freeProcess freeBuffer bufferSize longest mostQueued noSize busy refuses overflows relieved
 reached cs = after tuned cs
 
 -- 2 is ready behind 1, who runs: one ahead. It sees three ticks before it runs, as many as the bound allows, and 1 has two more turns.
@@ -49,6 +50,17 @@ posted = create 1 ∷ receive 0 ∷ send 0 [] ∷ send 0 [] ∷ send 0 [] ∷ cr
 messages-counted : (sent 0 tuned posted ≡ 3) × (gone 0 tuned posted ≡ 2)
 unfolding reached posted sent gone
 messages-counted = (refl, refl)
+
+-- four accepted sends to mailbox 0, which takes two and drops: two are dropped, one is received, one still queued; set anew while it is empty, it refuses the second
+meters : List Call
+meters = mailbox 0 2 1 ∷ send 0 [] ∷ send 0 [] ∷ send 0 [] ∷ send 0 [] ∷ create 1 ∷ receive 0 ∷ []
+
+rider : List Call
+rider = mailbox 0 1 1 ∷ mailbox 0 1 0 ∷ send 0 [] ∷ send 0 [] ∷ []
+
+drops-counted : (sent 0 tuned meters ≡ 4) × (gone 0 tuned meters ≡ 1) × (dropped 0 tuned meters ≡ 2) × (sent 0 tuned rider ≡ 1) × (dropped 0 tuned rider ≡ 0)
+unfolding reached meters rider sent gone dropped
+drops-counted = (refl, refl, refl, refl, refl)
 
 -- 1 is born, stopped and born again, and then ends: what the fate of its first name goes by. The create that is asked about is accepted.
 again : List Call

@@ -5,6 +5,7 @@ pub mod Frames
 pub mod Names
 pub mod Calls
 pub mod Mail
+pub mod Relief
 pub mod Accepted
 pub mod Refusals
 pub mod Sound
@@ -14,6 +15,7 @@ pub mod Rear
 pub mod Ahead
 pub mod Fair
 pub mod Lives
+pub mod Mailboxes
 pub mod Why
 pub mod Theorems
 pub mod Examples

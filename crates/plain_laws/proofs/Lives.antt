@@ -20,7 +20,8 @@ use Rattle.plain_laws.specs.Names.{bornIn, stoppedIn, Taken, unknown, Fa
 use Rattle.plain_laws.proofs.Names.{bare-name, named, is-named}
 use Rattle.plain_laws.proofs.Calls.{accepted, next-process}
 use Rattle.plain_laws.proofs.Frames.{slice-some, arrived}
-use Rattle.plain_laws.proofs.Rear.{accepted-passed, rejoins}
+use Rattle.plain_laws.proofs.Refusals.{accepted-passed}
+use Rattle.plain_laws.proofs.Rear.{rejoins}
 use Rattle.plain_laws.proofs.Sound.{step-sound, after-sound, step-tallies}
 use Rattle.plain_laws.proofs.Why.{only}
 

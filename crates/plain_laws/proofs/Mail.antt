@@ -12,7 +12,7 @@ use lib.Dec.{eqb}
 use borrow.Author.Tests.{eqb-true, eqb-false}
 use Rattle.lists.specs.Lists.{put, occurs, lowest}
 use Rattle.lists.proofs.Laws.{same?, le?, put-same, put-other, put-cases, one-le, one-other, occurs-append, total-change, total-at, lowest-passes}
-use Rattle.plain.specs.Sizes.{processes, mailboxes, capacity, buffers, longest}
+use Rattle.plain.specs.Sizes.{processes, mailboxes, buffers, longest}
 use Rattle.plain.specs.State.{Message, State, lies, buffersOf, inHand, held, free, freeBuffer}
 use Rattle.plain.specs.Sound.{AllShort, Short, Mail}
 
@@ -76,7 +76,7 @@ module _ (box : ℕ → List Message) (hand : ℕ → Option Message) (b : ℕ) 
       (le? processes p)
 
 -- a message in the lowest free buffer may come in
-pub fits-free : (s : State) (bytes : List ℕ) → Mail (s .box) (s .hand) → eqb (freeBuffer s) buffers ≡ false → length bytes ≤ longest
+pub fits-free : (s : State) (bytes : List ℕ) → Mail (s .settings .capacity) (s .box) (s .hand) → eqb (freeBuffer s) buffers ≡ false → length bytes ≤ longest
     → Fits (s .box) (s .hand) (record { buffer = freeBuffer s; bytes = bytes })
 fits-free s bytes k e short =
     let b₀ : ℕ = freeBuffer s in
@@ -89,9 +89,9 @@ fits-free s bytes k e short =
       short = short;
     }
 
-module _ (box : ℕ → List Message) (hand : ℕ → Option Message) (k : Mail box hand) where
+module _ (capacity : ℕ → ℕ) (box : ℕ → List Message) (hand : ℕ → Option Message) (k : Mail capacity box hand) where
   -- a message goes last into mailbox m
-  pub mail-queue : (m : ℕ) (x : Message) → m < mailboxes → length (box m) < capacity → Fits box hand x → Mail (put box m (box m ++ (x ∷ []))) hand
+  pub mail-queue : (m : ℕ) (x : Message) → m < mailboxes → length (box m) < capacity m → Fits box hand x → Mail capacity (put box m (box m ++ (x ∷ []))) hand
   mail-queue m x hm room f =
       let l : List Message = box m ++ (x ∷ []) in
       let more : (b : ℕ) → held (put box m l) hand b ≡ held box hand b + occurs b (lies x) = λ b. omega (arith, held-box box hand m l b hm, buffers-rear (box m) x b) in
@@ -100,12 +100,12 @@ module _ (box : ℕ → List Message) (hand : ℕ → Option Message) (k : Mail 
         no-more-buffers = λ b h. omega (arith, more b, k .no-more-buffers b h, f .range b h);
         queued-short = λ i. put-cases AllShort box m l i (λ e. short-rear (box m) x (k .queued-short m) (f .short)) (λ d. k .queued-short i);
         hands-short = k .hands-short;
-        at-most = λ i. put-cases (λ (a : List Message). length a ≤ capacity) box m l i (λ e. omega (arith, length-append (box m) (x ∷ []))) (λ d. k .at-most i);
+        at-most = λ i. put-cases (λ (a : List Message). length a ≤ capacity i) box m l i (λ e. rw e (omega (arith, length-append (box m) (x ∷ [])))) (λ d. k .at-most i);
         no-more-boxes = λ i h. put-other box m l i (omega arith) ∙ k .no-more-boxes i h;
       }
 
   -- a message goes into an empty hand
-  pub mail-hand : (p : ℕ) (x : Message) → p < processes → hand p ≡ none → Fits box hand x → Mail box (put hand p (some x))
+  pub mail-hand : (p : ℕ) (x : Message) → p < processes → hand p ≡ none → Fits box hand x → Mail capacity box (put hand p (some x))
   mail-hand p x hp empty f =
       let more : (b : ℕ) → held box (put hand p (some x)) b ≡ held box hand b + occurs b (lies x) =
       λ b. omega (arith, held-hand box hand p (some x) b hp, ap (λ (a : Option Message). occurs b (inHand a)) empty) in
@@ -119,7 +119,7 @@ module _ (box : ℕ → List Message) (hand : ℕ → Option Message) (k : Mail 
       }
 
   -- the first message of m goes into an empty hand
-  pub mail-fetch : (m p : ℕ) (x : Message) (l : List Message) → m < mailboxes → p < processes → box m ≡ x ∷ l → hand p ≡ none → Mail (put box m l) (put hand p (some x))
+  pub mail-fetch : (m p : ℕ) (x : Message) (l : List Message) → m < mailboxes → p < processes → box m ≡ x ∷ l → hand p ≡ none → Mail capacity (put box m l) (put hand p (some x))
   mail-fetch m p x l hm hp e empty =
       let same : (b : ℕ) → held (put box m l) (put hand p (some x)) b ≡ held box hand b = λ b. omega (
         arith,
@@ -135,12 +135,12 @@ module _ (box : ℕ → List Message) (hand : ℕ → Option Message) (k : Mail 
         no-more-buffers = λ b h. same b ∙ k .no-more-buffers b h;
         queued-short = λ i. put-cases AllShort box m l i (λ d. was .1) (λ d. k .queued-short i);
         hands-short = λ i. put-cases Short hand p (some x) i (λ d. was .0) (λ d. k .hands-short i);
-        at-most = λ i. put-cases (λ (a : List Message). length a ≤ capacity) box m l i (λ d. omega (arith, k .at-most m, ap length e)) (λ d. k .at-most i);
+        at-most = λ i. put-cases (λ (a : List Message). length a ≤ capacity i) box m l i (λ d. rw d (omega (arith, k .at-most m, ap length e))) (λ d. k .at-most i);
         no-more-boxes = λ i h. put-other box m l i (omega arith) ∙ k .no-more-boxes i h;
       }
 
   -- a hand is emptied
-  pub mail-drop : (p : ℕ) → p < processes → Mail box (put hand p none)
+  pub mail-drop : (p : ℕ) → p < processes → Mail capacity box (put hand p none)
   mail-drop p hp =
       let less : (b : ℕ) → held box (put hand p none) b ≤ held box hand b = λ b. omega (arith, held-hand box hand p none b hp) in
       record {
@@ -151,3 +151,32 @@ module _ (box : ℕ → List Message) (hand : ℕ → Option Message) (k : Mail 
         at-most = k .at-most;
         no-more-boxes = k .no-more-boxes;
       }
+
+  -- a mailbox loses its first message
+  pub mail-lose : (m : ℕ) (x : Message) (l : List Message) → m < mailboxes → box m ≡ x ∷ l → Mail capacity (put box m l) hand
+  mail-lose m x l hm e =
+      let less : (b : ℕ) → held (put box m l) hand b ≤ held box hand b = λ b. omega (
+        arith,
+        held-box box hand m l b hm,
+        ap (λ (a : List Message). occurs b (buffersOf a)) e,
+        occurs-append b (lies x) (buffersOf l),
+      ) in
+      record {
+        held-once = λ b. omega (arith, less b, k .held-once b);
+        no-more-buffers = λ b h. omega (arith, less b, k .no-more-buffers b h);
+        queued-short = λ i. put-cases AllShort box m l i (λ d. subst AllShort e (k .queued-short m) .1) (λ d. k .queued-short i);
+        hands-short = k .hands-short;
+        at-most = λ i. put-cases (λ (a : List Message). length a ≤ capacity i) box m l i (λ d. rw d (omega (arith, k .at-most m, ap length e))) (λ d. k .at-most i);
+        no-more-boxes = λ i h. put-other box m l i (omega arith) ∙ k .no-more-boxes i h;
+      }
+
+  -- a mailbox that is empty takes c messages from now on
+  pub mail-allotted : (m c : ℕ) → box m ≡ [] → Mail (put capacity m c) box hand
+  mail-allotted m c e = record {
+    held-once = k .held-once;
+    no-more-buffers = k .no-more-buffers;
+    queued-short = k .queued-short;
+    hands-short = k .hands-short;
+    at-most = λ i. put-cases (λ (a : ℕ). length (box i) ≤ a) capacity m c i (λ d. rw (d, e) (omega arith)) (λ d. k .at-most i);
+    no-more-boxes = k .no-more-boxes;
+  }

@@ -7,19 +7,21 @@ use mathlib.Core.Logic.{_≢_, ⊎-elim}
 use mathlib.Core.List.{List, [], _∷_}
 use native.Mathlib.Omega.{arith}
 use lib.Dec.{eqb}
-use lib.ListN.{take}
+use lib.ListN.{take, drop}
 use borrow.Author.Tests.{eqb-true, eqb-false, leb-false, not-false}
 use Rattle.lists.specs.Lists.{if_then_else_, occurs}
-use Rattle.lists.proofs.Laws.{either, same?, or-false, one-other}
+use Rattle.lists.proofs.Laws.{same?, or-false, one-other}
 use Rattle.plain.specs.Sizes.{processes, classes, atMailbox, atSemaphore}
-use Rattle.plain.specs.State.{Procs, State, line, rank, freeProcess, freeBuffer}
+use Rattle.plain.specs.State.{Message, Procs, State, line, rank, fill, freeProcess}
+use Rattle.plain.specs.Mailboxes.{bufferFor}
 use Rattle.plain.specs.Runs.{makeReady, goTo}
-use Rattle.plain.specs.Calls.{Call, create, stop, end, yield, class, tick, send, receive, read, release, signal, wait, Outcome, Refusal, perform, refusals, judge, step, yielded, ticked, regraded, deliver, wake}
+use Rattle.plain.specs.Calls.{Call, create, stop, end, yield, class, tick, mailbox, send, receive, read, release, signal, wait, Outcome, Refusal, perform, refusals, judge, step, yielded, ticked, regraded, deliver, wake}
 use Rattle.plain.specs.Sound.{Sound}
 use Rattle.plain_laws.specs.Moves.{toRear, settle, Away}
 use Rattle.plain_laws.specs.History.{Passed, codes, isRefusal, joiners}
 use Rattle.plain_laws.proofs.Calls.{accepted, next-process, create-settles, wake-settles, goTo-settles, wait-settles}
-use Rattle.plain_laws.proofs.Refusals.{Every, each-code}
+use Rattle.plain_laws.proofs.Refusals.{accepted-passed}
+use Rattle.plain_laws.proofs.Relief.{relieved-cases}
 use Rattle.plain_laws.proofs.Seats.{member, head-in, runner-away, runner-range, one-queue, nowhere}
 
 -- x, who is not ready, goes to the rear of a class with a full slice of n ticks; then settling says who runs
@@ -30,19 +32,6 @@ pub record Rejoins (n : ℕ) (s : Procs) (x : ℕ) (s′ : Procs) : Type 0 where
   pub away : Away s x
   pub below : class < classes
   pub settled : s′ ≡ settle (toRear class x class n s)
-
--- ---- a call that is not refused has none of its refusals
-
-passed : (rs : List Refusal) (s : State) (o : Outcome) → Every (λ k. not (eqb k 0 || eqb k 32) ≡ true) (codes rs) → isRefusal ((judge rs s o) .answer) ≡ false → Passed rs
-passed [] s o z e = tt
-passed (r ∷ rs) s o z e = ⊎-elim
-    (λ (h : r .holds ≡ true). absurd (true≢false (sym (z .0) ∙ (sym (rw h refl) ∙ e))))
-    (λ (h : r .holds ≡ false). (h, passed rs s o (z .1) (sym (rw h refl) ∙ e)))
-    (either (r .holds))
-
-pub accepted-passed : (s : State) (c : Call) → isRefusal ((step s c) .answer) ≡ false → Passed (refusals s c)
-unfolding step
-accepted-passed s c e = passed (refusals s c) s (perform s c) (each-code (λ k. not (eqb k 0 || eqb k 32) ≡ true) s c search) e
 
 -- ---- each call
 
@@ -121,7 +110,13 @@ module _ (s : State) (k : Sound s) where
   performs yield x p h = yield-joins x (eqb-false (r .running) 0 (p .0)) h
   performs (class c) x p h = class-joins c x (eqb c (r .class (r .running))) (eqb-false (r .running) 0 (p .0)) (leb-false classes c (p .1 .0)) refl h
   performs tick x p h = tick-joins x (eqb (r .running) 0 || not (eqb (r .ticks (r .running) - 1) 0)) refl h
-  performs (send m b) x p h = wakes (atMailbox m) x (r .queue (atMailbox m)) (λ l. deliver m (record { buffer = freeBuffer s; bytes = b }) l s) (omega arith) refl (λ w l. refl) h
+  performs (mailbox m c d) x p h = absurd (omega arith)
+  performs (send m b) x p h =
+      let y : Message = record { buffer = bufferFor m s; bytes = b } in
+      let next : State → List ℕ → State = λ t l. deliver m y l t in
+      relieved-cases m s (λ t. Joins x (next t (r .queue (atMailbox m)) .procs))
+      (λ e. wakes (atMailbox m) x (r .queue (atMailbox m)) (next s) (omega arith) refl (λ w l. refl) h)
+      (λ e. wakes (atMailbox m) x (r .queue (atMailbox m)) (next (fill m (drop 1 (s .box m)) s)) (omega arith) refl (λ w l. refl) h)
   performs (receive m) x p h = absurd (omega arith)
   performs (read room) x p h = absurd (omega arith)
   performs release x p h = absurd (omega arith)

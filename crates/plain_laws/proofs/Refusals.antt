@@ -5,13 +5,14 @@ use mathlib.Core.Path.{_≡_, refl, sym, ap, _∙_, subst}
 use lib.Dec.{eqb}
 use borrow.Author.Tests.{eqb-true, ne-eqb}
 use native.Mathlib.Omega.{arith}
-use mathlib.Core.Bool.{true, false, true≢false}
+use mathlib.Core.Bool.{Bool, true, false, not, _||_, true≢false}
 use mathlib.Core.Logic.{_≢_, _⊎_, inl, inr, ⊎-elim}
 use mathlib.Core.List.{List, [], _∷_, _++_}
+use Rattle.lists.specs.Lists.{if_then_else_}
 use Rattle.lists.proofs.Laws.{either}
-use Rattle.plain.specs.State.{State}
-use Rattle.plain.specs.Calls.{Call, create, stop, end, yield, class, tick, send, receive, read, release, signal, wait, Refusal, Outcome, perform, refusals, refused, judge, step, after}
-use Rattle.plain_laws.specs.History.{Passed, First, codes, inOrder, own, order, isRefusal, kind, isTick, as-one}
+use Rattle.plain.specs.State.{Settings, State}
+use Rattle.plain.specs.Calls.{Call, create, stop, end, yield, class, tick, mailbox, send, receive, read, release, signal, wait, Refusal, Outcome, perform, refusals, refused, judge, step, after}
+use Rattle.plain_laws.specs.History.{Kind, falls, posts, fetches, sets, other, Passed, First, codes, inOrder, own, order, isRefusal, kind, isTick, settingsBy, as-one}
 use Rattle.plain_laws.proofs.Calls.{judged, accepted}
 use Rattle.plain_laws.proofs.Accepted.{accepts}
 
@@ -47,14 +48,22 @@ only s c e = ⊎-elim (λ f. f)
 pub unchanged : (s : State) (c : Call) → isRefusal (step s c .answer) ≡ true → (step s c) .next ≡ s
 unchanged s c e = let f = only s c e in ap (λ (o : Outcome). o .next) (given s c (f .0) (f .1))
 
-pub settings-stay : (s : State) (c : Call) → (step s c) .next .settings ≡ s .settings
-unfolding step
-settings-stay s c = judged (λ (t : State). t .settings ≡ s .settings) (refusals s c) s (perform s c) refl (λ p. accepts s c .settings)
+slice-by : (i : Kind) (x : Settings) → settingsBy i x .slice ≡ x .slice
+slice-by falls x = refl
+slice-by (posts m) x = refl
+slice-by (fetches m) x = refl
+slice-by (sets m c d) x = refl
+slice-by other x = refl
 
-pub after-settings : (s : State) (cs : List Call) → after s cs .settings ≡ s .settings
+pub slice-stays : (s : State) (c : Call) → (step s c) .next .settings .slice ≡ s .settings .slice
+unfolding step
+slice-stays s c = judged (λ (t : State). t .settings .slice ≡ s .settings .slice) (refusals s c) s (perform s c) refl
+    (λ p. ap (λ (x : Settings). x .slice) (accepts s c .settings) ∙ slice-by (kind c) (s .settings))
+
+pub after-slice : (s : State) (cs : List Call) → after s cs .settings .slice ≡ s .settings .slice
 unfolding after
-after-settings s [] = refl
-after-settings s (c ∷ cs) = after-settings ((step s c) .next) cs ∙ settings-stay s c
+after-slice s [] = refl
+after-slice s (c ∷ cs) = after-slice ((step s c) .next) cs ∙ slice-stays s c
 
 -- ---- the codes of a call's own refusals
 
@@ -72,6 +81,7 @@ own-codes s end = (refl, inl refl)
 own-codes s yield = (refl, inl refl)
 own-codes s (class c) = (refl, inl refl)
 own-codes s tick = (refl, inr tt)
+own-codes s (mailbox m c d) = (refl, inl refl)
 own-codes s (send m b) = (refl, inl refl)
 own-codes s (receive m) = (refl, inl refl)
 own-codes s (read room) = (refl, inl refl)
@@ -128,3 +138,32 @@ nonzero s c = each-code (λ k. eqb k 0 ≡ false) s c search
 pub judge-cases : (P : Outcome → Type 0) (rs : List Refusal) (s : State) (o : Outcome) → NonZero rs → ((r : Refusal) → eqb (r .code) 0 ≡ false → P (refused r s)) → (Passed rs → P o) → P (judge rs s o)
 judge-cases P [] s o z f g = g tt
 judge-cases P (r ∷ rs) s o z f g = ⊎-elim (λ e. rw e (f r (z .0))) (λ e. rw e (judge-cases P rs s o (z .1) f (λ p. g (e, p)))) (either (r .holds))
+
+-- ---- a call that is not refused has none of its refusals
+
+-- a test that each of these numbers passes
+abbrev passes : (ℕ → Bool) → List ℕ → Bool
+passes t [] = true
+passes t (k ∷ ks) = if t k then passes t ks else false
+
+each-passes : (t : ℕ → Bool) (ks : List ℕ) → passes t ks ≡ true → Every (λ k. t k ≡ true) ks
+each-passes t [] e = tt
+each-passes t (k ∷ ks) e = ⊎-elim
+    (λ (y : t k ≡ true). (y, each-passes t ks (sym (rw y refl) ∙ e)))
+    (λ (n : t k ≡ false). absurd (true≢false (sym e ∙ rw n refl)))
+    (either (t k))
+
+passed : (rs : List Refusal) (s : State) (o : Outcome) → Every (λ k. not (eqb k 0 || eqb k 32) ≡ true) (codes rs) → isRefusal ((judge rs s o) .answer) ≡ false → Passed rs
+passed [] s o z e = tt
+passed (r ∷ rs) s o z e = ⊎-elim
+    (λ (h : r .holds ≡ true). absurd (true≢false (sym (z .0) ∙ (sym (rw h refl) ∙ e))))
+    (λ (h : r .holds ≡ false). (h, passed rs s o (z .1) (sym (rw h refl) ∙ e)))
+    (either (r .holds))
+
+pub accepted-passed : (s : State) (c : Call) → isRefusal ((step s c) .answer) ≡ false → Passed (refusals s c)
+unfolding step
+accepted-passed s c e = passed (refusals s c) s (perform s c) (each-code (λ k. not (eqb k 0 || eqb k 32) ≡ true) s c (each-passes (λ k. not (eqb k 0 || eqb k 32)) own refl)) e
+
+pub settings-by : (s : State) (c : Call) → isRefusal (step s c .answer) ≡ false → (step s c) .next .settings ≡ settingsBy (kind c) (s .settings)
+unfolding step
+settings-by s c e = ap (λ (o : Outcome). o .next .settings) (accepted (refusals s c) s (perform s c) (accepted-passed s c e)) ∙ accepts s c .settings

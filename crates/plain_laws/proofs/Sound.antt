@@ -8,16 +8,17 @@ use mathlib.Core.List.{List, [], _∷_, _++_, nil≢cons}
 use mathlib.Core.Option.{Option, none, some}
 use native.Mathlib.Omega.{arith}
 use lib.Dec.{leb, eqb}
-use lib.ListN.{length}
+use lib.ListN.{length, drop}
 use borrow.Author.Tests.{ltb-false, leb-false, eqb-false, not-false}
 use Rattle.lists.specs.Lists.{put, occurs}
 use Rattle.lists.proofs.Laws.{same?, put-same, put-other, put-cases, one-other, total-zero}
-use Rattle.plain.specs.Sizes.{processes, classes, mailboxes, semaphores, queues, capacity, longest, highestCount, atMailbox, atSemaphore}
+use Rattle.plain.specs.Sizes.{processes, classes, mailboxes, buffers, semaphores, queues, longest, highestCount, atMailbox, atSemaphore}
 use Rattle.plain.specs.State.{Message, Procs, Settings, State, start, usual, move, give, fill, score, line, rank, places, spots, held, freeProcess, freeBuffer}
+use Rattle.plain.specs.Mailboxes.{allot, noSize, refuses, overflows, relieved, bufferFor, noBuffer}
 use Rattle.plain.specs.Names.{rounds, born, raised, bare}
 use Rattle.plain.specs.Start.{Set, longestSlice}
 use Rattle.plain.specs.Runs.{makeReady, goTo, halt}
-use Rattle.plain.specs.Calls.{Call, create, stop, end, yield, class, tick, send, receive, read, release, signal, wait, perform, refusals, step, after, created, stopped, deliver, fetch, wake, claim, isEmpty}
+use Rattle.plain.specs.Calls.{Call, create, stop, end, yield, class, tick, mailbox, send, receive, read, release, signal, wait, perform, refusals, step, after, created, stopped, deliver, fetch, wake, claim, isEmpty}
 use Rattle.plain.specs.Sound.{Seated, Mail, Hands, Waits, Counts, Sound, In}
 use Rattle.plain_laws.specs.History.{Passed, kind, isTick, as-one}
 use Rattle.plain_laws.specs.Names.{begins}
@@ -28,7 +29,8 @@ use Rattle.plain_laws.proofs.Settle.{settle-seated, settle-highest}
 use Rattle.plain_laws.proofs.Frames.{Framed, Nowhere, Nobody, slice-some, arrived, Moved, Shifted}
 use Rattle.plain_laws.proofs.Calls.{judged, accepted, somebody, next-process, create-settles, wake-settles, stayed, made, roused, yields, grades, halted, paused, ticks}
 use Rattle.plain_laws.proofs.Refusals.{own-codes}
-use Rattle.plain_laws.proofs.Mail.{Fits, fits-free, mail-queue, mail-hand, mail-fetch, mail-drop}
+use Rattle.plain_laws.proofs.Mail.{Fits, fits-free, mail-queue, mail-hand, mail-fetch, mail-drop, mail-lose, mail-allotted}
+use Rattle.plain_laws.proofs.Relief.{relieved-cases, overflow-full, not-full, idle-box, usual-sized, sized-allotted}
 
 empty-hand : (h : Option Message) → isEmpty h ≡ true → h ≡ none
 empty-hand none e = refl
@@ -126,7 +128,7 @@ born-sound s k p h h′ = record {
 }
 
 -- only messages move
-mail-sound : (s : State) → Sound s → (box : ℕ → List Message) (hand : ℕ → Option Message) → Mail box hand → Hands (s .procs) hand → Waits (s .procs) box (s .count)
+mail-sound : (s : State) → Sound s → (box : ℕ → List Message) (hand : ℕ → Option Message) → Mail (s .settings .capacity) box hand → Hands (s .procs) hand → Waits (s .procs) box (s .count)
     → Sound (record { procs = s .procs; hand = hand; box = box; count = s .count; births = s .births; settings = s .settings })
 mail-sound s k box hand mail hands waits = record { settings = k .settings; seated = k .seated; highest = k .highest; mail = mail; hands = hands; waits = waits; counts = k .counts; births = k .births }
 
@@ -173,7 +175,7 @@ module _ (s : State) (k : Sound s) where
 
   -- the hand of p is emptied
   released : (p : ℕ) → p < processes → Sound (give p none s)
-  released p h = mail-sound s k (s .box) (put (s .hand) p none) (mail-drop (s .box) (s .hand) (k .mail) p h) (hands-emptied (s .procs) (s .hand) (k .hands) p) (k .waits)
+  released p h = mail-sound s k (s .box) (put (s .hand) p none) (mail-drop (s .settings .capacity) (s .box) (s .hand) (k .mail) p h) (hands-emptied (s .procs) (s .hand) (k .hands) p) (k .waits)
 
   -- p is stopped, and its hand emptied
   stops : (p : ℕ) → 1 ≤ p → p < processes → Goes 0 (stopped p s)
@@ -193,10 +195,10 @@ module _ (s : State) (k : Sound s) where
       (shifted-sound s k 0 _ Nobody Nobody (goTo n q (s .procs)) v (λ m x b y. rw (y .1) (no-mail m b (y .0))) (λ i x b y. no-count i b (y .0)) (λ x y. absurd y), v .moved, untold (goTo n q (s .procs)) v)
 
   -- a message is queued last where nobody waits, or handed to the first waiter
-  delivers : (m : ℕ) (x : Message) (l : List ℕ) → m < mailboxes → length (s .box m) < capacity → Fits (s .box) (s .hand) x → s .procs .queue (atMailbox m) ≡ l → Goes 0 (deliver m x l s)
+  delivers : (m : ℕ) (x : Message) (l : List ℕ) → m < mailboxes → length (s .box m) < s .settings .capacity m → Fits (s .box) (s .hand) x → s .procs .queue (atMailbox m) ≡ l → Goes 0 (deliver m x l s)
   delivers m x [] h room f e =
       let l : List Message = s .box m ++ (x ∷ []) in
-      still _ refl refl (mail-sound s k (put (s .box) m l) (s .hand) (mail-queue (s .box) (s .hand) (k .mail) m x h room f) (k .hands)
+      still _ refl refl (mail-sound s k (put (s .box) m l) (s .hand) (mail-queue (s .settings .capacity) (s .box) (s .hand) (k .mail) m x h room f) (k .hands)
       (waits-filled (s .procs) (s .box) (s .count) (k .waits) m l (λ p o. absurd (nobody-in (s .procs) (atMailbox m) p e o))))
   delivers m x (w ∷ l) h room f e =
       let here : In (s .procs) (atMailbox m) w = head-in n (s .procs) (k .seated) (atMailbox m) w l e in
@@ -205,11 +207,40 @@ module _ (s : State) (k : Sound s) where
       let g : Goes 0 (move r′ s) = calm 0 r′ (roused s k (atMailbox m) w l (omega arith) e) in
       let there = arrived n w (s .procs .class w) (s .procs) r′ (slice-some s k) (k .seated) (k .seated .in-class w) (who .0) (who .1) (wake-settles n (s .procs) (k .seated) (k .highest) (atMailbox m) w l (omega arith) e) in (
         mail-sound (move r′ s) (g .0) (s .box) (put (s .hand) w (some x))
-            (mail-hand (s .box) (s .hand) (k .mail) w x (who .1) (k .hands .waiters m w h here) f)
+            (mail-hand (s .settings .capacity) (s .box) (s .hand) (k .mail) w x (who .1) (k .hands .waiters m w h here) f)
             (hands-given r′ (s .hand) (g .0 .hands) w x (who .0) (omega (arith, there .0)) (λ i. there .1 (atMailbox i) (omega arith))) (g .0 .waits),
         g .1,
         g .2,
       )
+
+  -- a mailbox takes c messages from now on and is of mode d, where nothing lies there
+  allots : (m c d : ℕ) → m < mailboxes → noSize c d ≡ false → s .box m ≡ [] → Goes 0 (allot m c d s)
+  allots m c d h e empty = still _ refl refl (record {
+    settings = record { some-ticks = k .settings .some-ticks; not-over = k .settings .not-over; sized = sized-allotted (s .settings) (k .settings .sized) m c d h e };
+    seated = k .seated;
+    highest = k .highest;
+    mail = mail-allotted (s .settings .capacity) (s .box) (s .hand) (k .mail) m c empty;
+    hands = k .hands;
+    waits = k .waits;
+    counts = k .counts;
+    births = k .births;
+  })
+
+  -- a mailbox loses its first message
+  loses : (m : ℕ) (x : Message) (l : List Message) → m < mailboxes → s .box m ≡ x ∷ l → Sound (fill m l s)
+  loses m x l h e = mail-sound s k (put (s .box) m l) (s .hand) (mail-lose (s .settings .capacity) (s .box) (s .hand) (k .mail) m x l h e) (k .hands)
+      (waits-filled (s .procs) (s .box) (s .count) (k .waits) m l (λ p o. absurd (nil≢cons (sym (k .waits .boxes m p h o) ∙ e))))
+
+  -- a send finds the state as it is, or without the first message of a mailbox that overflows
+  relieves : (m : ℕ) (P : State → Type 0) → (overflows m s ≡ false → P s) → ((x : Message) (l : List Message) → s .box m ≡ x ∷ l → P (fill m l s)) → P (relieved m s)
+  relieves m P f g = relieved-cases m s P f (λ o. go (s .box m) refl o)
+    where
+      go : (l : List Message) → s .box m ≡ l → overflows m s ≡ true → P (fill m (drop 1 l) s)
+      go [] e o = absurd (omega (arith, overflow-full m s o, k .settings .sized .some m, ap length e))
+      go (x ∷ l) e o = g x l e
+
+  pub relieved-sound : (m : ℕ) → m < mailboxes → Sound (relieved m s)
+  relieved-sound m h = relieves m Sound (λ e. k) (λ x l e. loses m x l h e)
 
   -- the caller's hand takes the first message of a mailbox
   hand-sound : (m : ℕ) (x : Message) (l : List Message) → s .procs .running ≢ 0 → m < mailboxes → s .box m ≡ x ∷ l → s .hand (s .procs .running) ≡ none
@@ -217,7 +248,7 @@ module _ (s : State) (k : Sound s) where
   hand-sound m x l z h e empty =
       let r : ℕ = s .procs .running in
       mail-sound s k (put (s .box) m l) (put (s .hand) r (some x))
-      (mail-fetch (s .box) (s .hand) (k .mail) m r x l h (runner-range n (s .procs) (k .seated)) e empty)
+      (mail-fetch (s .settings .capacity) (s .box) (s .hand) (k .mail) m r x l h (runner-range n (s .procs) (k .seated)) e empty)
       (hands-given (s .procs) (s .hand) (k .hands) r x (omega arith) (runs-once (s .procs)) (λ i. runner-away n (s .procs) (k .seated) (atMailbox i)))
       (waits-filled (s .procs) (s .box) (s .count) (k .waits) m l (λ p o. absurd (nil≢cons (sym (k .waits .boxes m p h o) ∙ e))))
 
@@ -248,6 +279,18 @@ module _ (s : State) (k : Sound s) where
   claims i zero z h e = pauses (atSemaphore i) z (omega arith) (omega arith) (λ m h′ d. absurd (omega arith)) (λ j h′ d. subst (λ (y : ℕ). s .count y ≡ 0) (omega arith) e)
   claims i (suc c) z h e = scores i c h (omega (arith, k .counts .most i)) (λ x o. absurd (omega (arith, k .waits .counts i x h o)))
 
+  -- the lowest free buffer takes a message for a mailbox that is not full, or has lost its oldest one
+  posts : (m : ℕ) (b : List ℕ) → m < mailboxes → length b ≤ longest → refuses m s ≡ false → noBuffer m s ≡ false
+      → Goes 0 (deliver m (record { buffer = bufferFor m s; bytes = b }) (s .procs .queue (atMailbox m)) (relieved m s))
+  posts m b h short willing = relieves m
+      (λ t. eqb (freeBuffer t) buffers ≡ false → Goes 0 (deliver m (record { buffer = freeBuffer t; bytes = b }) (s .procs .queue (atMailbox m)) t))
+      (λ e z. delivers m (record { buffer = freeBuffer s; bytes = b }) (s .procs .queue (atMailbox m)) h (leb-false (s .settings .capacity m) (length (s .box m)) (not-full m s willing e)) (fits-free s b (k .mail) z short) refl)
+      (λ x l e z.
+      let t : State = fill m l s in
+      let j : Sound t = loses m x l h e in
+      Rattle.plain_laws.proofs.Sound.delivers t j m (record { buffer = freeBuffer t; bytes = b }) (s .procs .queue (atMailbox m)) h
+      (omega (arith, ap length (put-same (s .box) m l), k .mail .at-most m, ap length e)) (fits-free t b (j .mail) z short) refl)
+
   performed : (c : Call) → Passed (refusals s c) → Goes (as-one (isTick (kind c))) ((perform s c) .next)
   unfolding perform refusals
   performed (create c) x = creates c (x .0) (x .1 .0)
@@ -256,9 +299,8 @@ module _ (s : State) (k : Sound s) where
   performed yield x = calm 0 _ (yields s k (eqb-false (s .procs .running) 0 (x .0)))
   performed (class c) x = calm 0 _ (grades s k c (eqb-false (s .procs .running) 0 (x .0)) (leb-false classes c (x .1 .0)))
   performed tick x = calm 1 _ (ticks s k)
-  performed (send m b) x =
-      delivers m (record { buffer = freeBuffer s; bytes = b }) (s .procs .queue (atMailbox m)) (leb-false mailboxes m (x .0)) (leb-false capacity (length (s .box m)) (x .1 .1 .0))
-      (fits-free s b (k .mail) (x .1 .1 .1 .0) (ltb-false longest (length b) (x .1 .0))) refl
+  performed (mailbox m c d) x = allots m c d (leb-false mailboxes m (x .0)) (x .1 .0) (idle-box m s (x .1 .1 .0) .0)
+  performed (send m b) x = posts m b (leb-false mailboxes m (x .0)) (ltb-false longest (length b) (x .1 .0)) (x .1 .1 .0) (x .1 .1 .1 .0)
   performed (receive m) x = fetches m (s .box m) (eqb-false (s .procs .running) 0 (x .0)) (leb-false mailboxes m (x .1 .0)) (not-false (isEmpty (s .hand (s .procs .running))) (x .1 .1 .0)) refl
   performed (read room) x = still s refl refl k
   performed release x = still _ refl refl (released (s .procs .running) (runner-range n (s .procs) (k .seated)))
@@ -286,7 +328,7 @@ module _ (s : State) (k : Sound s) where
 
 pub usual-set : Set usual
 unfolding longestSlice
-usual-set = record { some-ticks = omega arith; not-over = omega arith }
+usual-set = record { some-ticks = omega arith; not-over = omega arith; sized = usual-sized }
 
 pub start-sound : (x : Settings) → Set x → Sound (start x)
 unfolding spots held

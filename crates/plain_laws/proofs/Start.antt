@@ -10,37 +10,38 @@ use borrow.Author.Tests.{eqb-false, ltb-false, ne-eqb, le-ltb}
 use Rattle.lists.proofs.Laws.{either}
 use Rattle.plain.specs.Calls.{Outcome, done, refused}
 use Rattle.plain.specs.Sound.{Sound}
-use Rattle.plain.specs.Start.{Set, longestSlice, noSlice, freshStart}
-use Rattle.plain.specs.State.{Settings, start, usual, fresh}
+use Rattle.plain.specs.Start.{Set, longestSlice, sliceOf, noSlice, freshStart}
+use Rattle.plain.specs.State.{start, usual, fresh}
+use Rattle.plain_laws.proofs.Relief.{usual-sized}
 use Rattle.plain_laws.proofs.Sound.{usual-set, start-sound}
 
 neither : (a b : Bool) → (a || b) ≡ false → (a ≡ false) × (b ≡ false)
 neither true b e = absurd (true≢false e)
 neither false b e = (refl, e)
 
-module _ (x : Settings) where
-  pub set-passes : Set x → noSlice x .holds ≡ false
-  set-passes z = rw (ne-eqb (x .slice) 0 (λ e. omega (arith, z .some-ticks)), le-ltb longestSlice (x .slice) (z .not-over)) refl
+module _ (n : ℕ) where
+  pub set-passes : Set (sliceOf n) → noSlice n .holds ≡ false
+  set-passes z = rw (ne-eqb n 0 (λ e. omega (arith, z .some-ticks)), le-ltb longestSlice n (z .not-over)) refl
 
-  pub passes-set : noSlice x .holds ≡ false → Set x
+  pub passes-set : noSlice n .holds ≡ false → Set (sliceOf n)
   passes-set e =
-      let n = neither (eqb (x .slice) 0) (ltb longestSlice (x .slice)) e in
-      let z = eqb-false (x .slice) 0 (n .0) in
-      record { some-ticks = omega arith; not-over = ltb-false longestSlice (x .slice) (n .1) }
+      let a = neither (eqb n 0) (ltb longestSlice n) e in
+      let z = eqb-false n 0 (a .0) in
+      record { some-ticks = omega arith; not-over = ltb-false longestSlice n (a .1); sized = usual-sized }
 
   -- it is refused, or begins
-  pub start-cases : (P : Outcome → Type 0) → ((Set x → ⊥) → P (refused (noSlice x) fresh)) → (Set x → P (done 0 (start x))) → P (freshStart x)
+  pub start-cases : (P : Outcome → Type 0) → ((Set (sliceOf n) → ⊥) → P (refused (noSlice n) fresh)) → (Set (sliceOf n) → P (done 0 (start (sliceOf n)))) → P (freshStart n)
   unfolding freshStart
   start-cases P f g = ⊎-elim
-      (λ (e : noSlice x .holds ≡ true). rw e (f (λ z. true≢false (sym e ∙ set-passes z))))
-      (λ (e : noSlice x .holds ≡ false). rw e (g (passes-set e)))
-      (either (noSlice x .holds))
+      (λ (e : noSlice n .holds ≡ true). rw e (f (λ z. true≢false (sym e ∙ set-passes z))))
+      (λ (e : noSlice n .holds ≡ false). rw e (g (passes-set e)))
+      (either (noSlice n .holds))
 
-  pub start-taken : Set x → freshStart x ≡ done 0 (start x)
-  start-taken z = start-cases (λ o. o ≡ done 0 (start x)) (λ n. absurd (n z)) (λ z. refl)
+  pub start-taken : Set (sliceOf n) → freshStart n ≡ done 0 (start (sliceOf n))
+  start-taken z = start-cases (λ o. o ≡ done 0 (start (sliceOf n))) (λ y. absurd (y z)) (λ z. refl)
 
-  pub start-refused : (Set x → ⊥) → freshStart x ≡ refused (noSlice x) fresh
-  start-refused n = start-cases (λ o. o ≡ refused (noSlice x) fresh) (λ n. refl) (λ z. absurd (n z))
+  pub start-refused : (Set (sliceOf n) → ⊥) → freshStart n ≡ refused (noSlice n) fresh
+  start-refused y = start-cases (λ o. o ≡ refused (noSlice n) fresh) (λ y. refl) (λ z. absurd (y z))
 
-  pub begun-sound : Sound (freshStart x .next)
-  begun-sound = start-cases (λ o. Sound (o .next)) (λ n. start-sound usual usual-set) (λ z. start-sound x z)
+  pub begun-sound : Sound (freshStart n .next)
+  begun-sound = start-cases (λ o. Sound (o .next)) (λ y. start-sound usual usual-set) (λ z. start-sound (sliceOf n) z)

@@ -14,20 +14,23 @@ use Rattle.plain.specs.Calls.{Call, Answer, create, stop, yield, perform, refus
 use Rattle.plain_laws.specs.History.{moments, overtaken, lastFirst}
 use Rattle.plain_laws.specs.Reasons.{OneReason}
 use Rattle.plain_laws.specs.Names.{Names}
-use Rattle.plain_laws.specs.Theorems.{Fair, Soundness, FreshStarts, Refusals, Messages, Fairness, Kernel, replies, AnswersAsPlain, UselessShutOut}
+use Rattle.plain_laws.specs.Mailboxes.{Mailboxes}
+use Rattle.plain_laws.specs.Theorems.{Fair, Soundness, FreshStarts, Refusals, Messages, Fairness}
+use Rattle.plain_laws.specs.Useless.{Kernel, replies, AnswersAsPlain, UselessShutOut}
 use Rattle.plain_laws.proofs.Sound.{usual-set, start-sound, step-sound, after-sound}
-use Rattle.plain_laws.proofs.Refusals.{given, only, unchanged, settings-stay, after-settings, in-order}
+use Rattle.plain_laws.proofs.Refusals.{given, only, unchanged, slice-stays, settings-by, after-slice, in-order}
 use Rattle.plain_laws.proofs.Start.{start-taken, start-refused, begun-sound}
 use Rattle.plain_laws.proofs.Messages.{counted-from-start}
 use Rattle.plain_laws.proofs.Fair.{fair}
 use Rattle.plain_laws.proofs.Lives as Lives
+use Rattle.plain_laws.proofs.Mailboxes as Boxes
 use Rattle.plain_laws.proofs.Why as Why
 
 pub soundness : Soundness
-soundness = record { usual-set = usual-set; at-first = start-sound; kept = λ s c k. step-sound s k c; always = λ x cs z. after-sound (start x) cs (start-sound x z); settings-stay = settings-stay }
+soundness = record { usual-set = usual-set; at-first = start-sound; kept = λ s c k. step-sound s k c; always = λ x cs z. after-sound (start x) cs (start-sound x z); slice-stays = slice-stays; settings-by = settings-by }
 
 pub fresh-starts : FreshStarts
-fresh-starts = record { taken = start-taken; given = start-refused; sound = begun-sound; ordered = λ x. refl }
+fresh-starts = record { taken = start-taken; given = start-refused; sound = begun-sound; ordered = λ n. refl }
 
 pub refusals-given : Refusals
 refusals-given = record { given = given; only = only; unchanged = unchanged; ordered = in-order }
@@ -36,7 +39,7 @@ pub messages : Messages
 messages = counted-from-start
 
 pub fairness : Fairness
-fairness x cs later p z o = subst (λ (y : Settings). Fair (y .slice) (after (start x) cs .procs) p (moments (after (start x) cs) later)) (after-settings (start x) cs)
+fairness x cs later p z o = subst (λ (n : ℕ). Fair n (after (start x) cs .procs) p (moments (after (start x) cs) later)) (after-slice (start x) cs)
     (fair (after (start x) cs) p later (after-sound (start x) cs (start-sound x z)) o)
 
 -- ---- creates from fresh
@@ -138,4 +141,13 @@ names = record {
       let b = by-name x K h in
       let c = by-bare-number x K h in
       omega arith;
+}
+
+pub mailboxes : Mailboxes
+mailboxes = record {
+  never-11 = Boxes.never-11;
+  taken = λ s m b k o. Boxes.taken s k m o b;
+  oldest = λ s m b k o. Boxes.oldest s k m o b;
+  keeps = Boxes.keeps;
+  none-dropped = λ x m cs. Boxes.none-dropped (start x) m cs;
 }

@@ -8,15 +8,17 @@ use lib.Dec.{eqb, leb}
 use lib.ListN.{take}
 use Rattle.lists.specs.Lists.{if_then_else_, someone, total, occurs}
 use Rattle.plain.specs.Sizes.{processes, atMailbox, atSemaphore}
-use Rattle.plain.specs.State.{Procs, State, level, unused, freeProcess}
+use Rattle.plain.specs.State.{Procs, Settings, State, level, unused, freeProcess}
+use Rattle.plain.specs.Mailboxes.{allotted, overflows}
 use Rattle.plain.specs.Runs.{standDown, pick}
-use Rattle.plain.specs.Calls.{Call, create, stop, end, yield, class, tick, send, receive, read, release, signal, wait, Answer, Refusal, Outcome, step}
+use Rattle.plain.specs.Calls.{Call, create, stop, end, yield, class, tick, mailbox, send, receive, read, release, signal, wait, Answer, Refusal, Outcome, step}
 
--- what a call is to the counts: a tick, a send to m, a receive from m, or neither
+-- what a call is to the counts and the settings: a tick, a send to m, a receive from m, a setting of m's capacity and mode, or none of these
 pub data Kind : Type 0 where
   falls : Kind
   posts : ℕ → Kind
   fetches : ℕ → Kind
+  sets : ℕ → ℕ → ℕ → Kind
   other : Kind
 
 abbrev pub kind : Call → Kind
@@ -26,6 +28,7 @@ kind end = other
 kind yield = other
 kind (class c) = other
 kind tick = falls
+kind (mailbox m c d) = sets m c d
 kind (send m b) = posts m
 kind (receive m) = fetches m
 kind (read room) = other
@@ -59,9 +62,9 @@ inOrder (k ∷ ks) [] = false
 inOrder [] (o ∷ os) = true
 inOrder (k ∷ ks) (o ∷ os) = if eqb k o then inOrder ks os else inOrder (k ∷ ks) os
 
--- "14, then 15, 5, then 1 to 4, then 6, 7, 8, 10, 11, 12, 13, 9", and "16 .. after 14" (request 3): these three are judged before a call's own
+-- "14, then 15, 5, then 1 to 4, then 6, 7, 8, 10, 11, 12, 13, 9", "16 .. after 14" (request 3), and 17 and 18 after 3 (request 5): 14, 16 and 15 are judged before a call's own
 abbrev pub own : List ℕ
-own = 5 ∷ 1 ∷ 2 ∷ 3 ∷ 4 ∷ 6 ∷ 7 ∷ 8 ∷ 10 ∷ 11 ∷ 12 ∷ 13 ∷ 9 ∷ []
+own = 5 ∷ 1 ∷ 2 ∷ 3 ∷ 17 ∷ 18 ∷ 4 ∷ 6 ∷ 7 ∷ 8 ∷ 10 ∷ 11 ∷ 12 ∷ 13 ∷ 9 ∷ []
 
 abbrev pub order : List ℕ
 order = 14 ∷ 16 ∷ 15 ∷ own
@@ -80,18 +83,28 @@ abbrev pub isSend : ℕ → Kind → Bool
 isSend m falls = false
 isSend m (posts i) = eqb i m
 isSend m (fetches i) = false
+isSend m (sets i c d) = false
 isSend m other = false
 
 abbrev pub isGone : ℕ → State → Kind → Bool
 isGone m s falls = false
 isGone m s (posts i) = eqb i m && someone (s .procs .queue (atMailbox m))
 isGone m s (fetches i) = eqb i m
+isGone m s (sets i c d) = false
 isGone m s other = false
+
+-- a message that m drops for another
+abbrev pub isDropped : ℕ → State → Kind → Bool
+isDropped m s falls = false
+isDropped m s (posts i) = eqb i m && (overflows m s && someone (s .box m))
+isDropped m s (fetches i) = false
+isDropped m s (sets i c d) = false
+isDropped m s other = false
 
 abbrev pub isDone : Outcome → Bool
 isDone o = eqb (o .answer .code) 0
 
--- how many sends to m were accepted, and how many messages went from m into a hand, counted from the history
+-- how many sends to m were accepted, how many messages went from m into a hand, and how many m dropped, counted from the history
 unfoldable pub sent : ℕ → State → List Call → ℕ
 sent m s [] = 0
 sent m s (c ∷ cs) = as-one (isDone (step s c) && isSend m (kind c)) + sent m (step s c .next) cs
@@ -99,6 +112,18 @@ sent m s (c ∷ cs) = as-one (isDone (step s c) && isSend m (kind c)) + sent m (
 unfoldable pub gone : ℕ → State → List Call → ℕ
 gone m s [] = 0
 gone m s (c ∷ cs) = as-one (isDone (step s c) && isGone m s (kind c)) + gone m (step s c .next) cs
+
+unfoldable pub dropped : ℕ → State → List Call → ℕ
+dropped m s [] = 0
+dropped m s (c ∷ cs) = as-one (isDone (step s c) && isDropped m s (kind c)) + dropped m (step s c .next) cs
+
+-- the settings after a call of this kind that is not refused
+abbrev pub settingsBy : Kind → Settings → Settings
+settingsBy falls x = x
+settingsBy (posts m) x = x
+settingsBy (fetches m) x = x
+settingsBy (sets m c d) x = allotted m c d x
+settingsBy other x = x
 
 -- ---- ticks and turns, of a ready process p
 
@@ -131,6 +156,7 @@ abbrev pub isTick : Kind → Bool
 isTick falls = true
 isTick (posts m) = false
 isTick (fetches m) = false
+isTick (sets m c d) = false
 isTick other = false
 
 -- A moment of a history: a call, what it answered, and how the processes stood before and after it.
@@ -150,6 +176,7 @@ joiners r end = []
 joiners r yield = r .running ∷ []
 joiners r (class c) = if eqb c (r .class (r .running)) then [] else r .running ∷ []
 joiners r tick = if eqb (r .running) 0 || not (eqb (r .ticks (r .running) - 1) 0) then [] else r .running ∷ []
+joiners r (mailbox m c d) = []
 joiners r (send m b) = take 1 (r .queue (atMailbox m))
 joiners r (receive m) = []
 joiners r (read room) = []

@@ -12,7 +12,7 @@ use Rattle.plain.specs.Sound.{Used}
 use Rattle.plain.specs.Start.{Set}
 use Rattle.plain.specs.Why as Why
 use Rattle.plain_laws.specs.History.{as-one, isDone, Moment, moments}
-use Rattle.plain_laws.specs.Theorems.{Kernel, AnswersAsPlain}
+use Rattle.plain_laws.specs.Useless.{Kernel, AnswersAsPlain}
 
 -- ---- what is counted over the moments of a history
 

@@ -21,7 +21,7 @@ use Rattle.promise.proofs.Steps.{does, made}
 does-judge : (l : Lent) (store : List ℕ) (c : Plain.Call) (s : State) → does l store c s ≡ Plain.judge (refusalsOf l store c s) s (Plain.perform s c)
 unfolding withStore Plain.step
 does-judge Lent.nothing store c s = refl
-does-judge (Lent.bytes b) store c s = refl
+does-judge (Lent.bytes b at) store c s = refl
 does-judge (Lent.room n) store c s = refl
 
 module _ (l : Lent) (store : List ℕ) (c : Plain.Call) (s : State) where
@@ -40,7 +40,7 @@ module _ (l : Lent) (store : List ℕ) (c : Plain.Call) (s : State) where
 
 in-order : (l : Lent) (store : List ℕ) (c : Plain.Call) (s : State) → inOrder (14 ∷ codes (refusalsOf l store c s)) order ≡ true
 in-order Lent.nothing store c s = behind-16 s c
-in-order (Lent.bytes b) store c s = own-codes s c .0
+in-order (Lent.bytes b at) store c s = own-codes s c .0
 in-order (Lent.room n) store c s = own-codes s c .0
 
 module _ {K : Type 0} (Holds : K → State → Type 0) where

@@ -14,13 +14,13 @@ use Rattle.promise.proofs.Stored.{leaves, room-shown}
 -- what a call that is lent so does to plain states
 abbrev pub does : Lent → List ℕ → Plain.Call → State → Plain.Outcome
 does Lent.nothing store c = λ s. Plain.step s c
-does (Lent.bytes b) store c = withStore store c
+does (Lent.bytes b at) store c = withStore store c
 does (Lent.room n) store c = withStore store c
 
 -- that is the plain kernel's step, or the same behind the test of the store
 pub does-cases : (P : Plain.Outcome → Type 0) (l : Lent) (store : List ℕ) (c : Plain.Call) (s : State) → P (Plain.step s c) → P (withStore store c s) → P (does l store c s)
 does-cases P Lent.nothing store c s p q = p
-does-cases P (Lent.bytes b) store c s p q = q
+does-cases P (Lent.bytes b at) store c s p q = q
 does-cases P (Lent.room n) store c s p q = q
 
 -- what is shown and the store that is left
@@ -40,6 +40,6 @@ module _ {K : Type 0} (Holds : K → State → Type 0) where
 
   pub made : {k k′ : K} {store store′ : List ℕ} {c : Plain.Call} {h : Heard} → Step Holds k store c h k′ store′ → Made (lends c) k store c h k′ store′
   made (Step.plainly is p) = rw is (other-areas (λ s S e u. refl) (λ e u. refl) p)
-  made (Step.posts b later is p) = rw is (other-areas (λ s S e w. ap (λ (x : List ℕ). ([], x)) w) (λ e w. ap (λ (x : List ℕ). ([], x)) w) p)
+  made (Step.posts b at later is p) = rw is (other-areas (λ s S e w. ap (λ (x : List ℕ). ([], x)) w) (λ e w. ap (λ (x : List ℕ). ([], x)) w) p)
   made {store = store} {c = c} (Step.copies room later is p) =
       rw is (other-areas (λ s S e w. ap (λ (x : List ℕ). (x, store)) (rw (← room-shown store s S c is room) (λ i. copied (e i) (w i)))) (λ e w. rw e refl) p)

@@ -11,17 +11,20 @@ use native.Mathlib.Omega.{arith}
 use lib.Dec.{eqb}
 use lib.ListN.{length, take, drop, length-drop}
 use lib.Seq.{take-length, take-append-le, length-take-le}
-use borrow.Author.Tests.{eqb-true, eqb-false, ltb-false, not-false}
+use borrow.Author.Tests.{eqb-true, eqb-false, ltb-false, leb-false, not-false}
 use Rattle.lists.proofs.Laws.{put-cases, one-same, le?}
 use Rattle.lists.specs.Lists.{if_then_else_, put, one, occurs}
 use Rattle.plain.specs.Calls as Plain
-use Rattle.plain.specs.Calls.{create, stop, end, yield, class, tick, send, receive, read, release, signal, wait}
+use Rattle.plain.specs.Calls.{create, stop, end, yield, class, tick, mailbox, send, receive, read, release, signal, wait}
+use Rattle.plain.specs.Mailboxes.{relieved}
 use Rattle.plain.specs.Names.{bare}
-use Rattle.plain.specs.Sizes.{buffers, bufferSize, storeSize, longest, atMailbox, atSemaphore}
+use Rattle.plain.specs.Sizes.{mailboxes, buffers, bufferSize, storeSize, longest, atMailbox, atSemaphore}
 use Rattle.plain.specs.Sound.{Sound, AllShort, Short}
 use Rattle.plain.specs.State.{Message, Settings, State, start, lies, buffersOf, inHand, held, freeBuffer}
 use Rattle.plain_laws.proofs.Mail.{free-nowhere, not-queued, not-in-hand}
 use Rattle.plain_laws.proofs.Refusals.{judge-cases, nonzero}
+use Rattle.plain_laws.proofs.Relief.{relieved-cases}
+use Rattle.plain_laws.proofs.Sound.{relieved-sound}
 use Rattle.plain_laws.specs.History.{Passed}
 use Rattle.promise.specs.Lent.{Lent, lends}
 use Rattle.promise.specs.Promise.{noStore, withStore, written, storeAfter, roomAfter, inStore, StoredAll, Stored}
@@ -48,6 +51,17 @@ module _ (store : List ℕ) (s : State) (k : Stored store s) where
     in-hands = λ q. subst (λ (f : ℕ → Option Message). inStore store (f q) ≡ Plain.bytesIn (f q)) (sym h)
         (put-cases (λ (a : Option Message). inStore store a ≡ Plain.bytesIn a) (s .hand) p none q (λ d. refl) (λ d. k .in-hands q));
   }
+
+  lost : (m : ℕ) → Stored store (relieved m s)
+  lost m = relieved-cases m s (Stored store) (λ e. k) (λ e. record {
+    long = k .long;
+    queued = λ i. put-cases (StoredAll store) (s .box) m (drop 1 (s .box m)) i (λ d. others (s .box m) (k .queued m)) (λ d. k .queued i);
+    in-hands = k .in-hands;
+  })
+    where
+      others : (l : List Message) → StoredAll store l → StoredAll store (drop 1 l)
+      others [] h = tt
+      others (x ∷ l) h = h .1
 
   fetched : (m : ℕ) (l : List Message) → s .box m ≡ l → ([] ≡ Plain.fetch m l s .message) × Stored store (Plain.fetch m l s .next)
   fetched m [] e = (refl, moved (Plain.fetch m [] s .next) refl refl)
@@ -155,13 +169,13 @@ module _ (store : List ℕ) (s : State) (k : Sound s) (st : Stored store s) (m :
 -- what is shown in a room, and the store that is left, by what the call is lent
 abbrev pub leaves : Lent → List ℕ → Plain.Outcome → State → List ℕ × List ℕ
 leaves Lent.nothing store o s = ([], store)
-leaves (Lent.bytes b) store o s = ([], storeAfter store o s b)
+leaves (Lent.bytes b at) store o s = ([], storeAfter store o (at s) b)
 leaves (Lent.room n) store o s = (copied (o .answer) (inStore store (Plain.hand s)), store)
 
 -- a call that takes a room and is done tells how long the message in hand is
 abbrev Tells : State → Lent → Plain.Outcome → Type 0
 Tells s Lent.nothing o = Unit {0}
-Tells s (Lent.bytes b) o = Unit {0}
+Tells s (Lent.bytes b at) o = Unit {0}
 Tells s (Lent.room n) o = o .answer .code ≡ 0 → o .answer .number ≡ length (Plain.bytesIn (Plain.hand s))
 
 -- and over a store that holds every message, the message that it gives is shown, and the store holds what is held then
@@ -171,7 +185,7 @@ Kept store s l o = Tells s l o × (Stored store s → (leaves l store o s .0 ≡
 module _ (store : List ℕ) (s : State) (k : Sound s) where
   refused-kept : (l : Lent) (r : Plain.Refusal) → eqb (r .code) 0 ≡ false → Kept store s l (Plain.refused r s)
   refused-kept Lent.nothing r e = (tt, λ st. (refl, st))
-  refused-kept (Lent.bytes b) r e = (tt, λ st. (refl, rw e st))
+  refused-kept (Lent.bytes b at) r e = (tt, λ st. (refl, rw e st))
   refused-kept (Lent.room n) r e = (λ z. absurd (eqb-false (r .code) 0 e z), λ st. (rw e refl, st))
 
   performed : (c : Plain.Call) → Passed (Plain.refusals s c) → Kept store s (lends c) (Plain.perform s c)
@@ -182,7 +196,15 @@ module _ (store : List ℕ) (s : State) (k : Sound s) where
   performed yield p = (tt, λ st. (refl, moved store s st _ refl refl))
   performed (class c) p = (tt, λ st. (refl, moved store s st _ refl refl))
   performed tick p = (tt, λ st. (refl, moved store s st _ refl refl))
-  performed (send m b) p = (tt, λ st. (refl, delivered store s k st m b (ltb-false longest (length b) (p .1 .0)) (p .1 .1 .1 .0) (s .procs .queue (atMailbox m))))
+  performed (mailbox m c d) p = (tt, λ st. (refl, moved store s st _ refl refl))
+  performed (send m b) p = (
+    tt,
+    λ st. (
+      refl,
+      delivered store (relieved m s) (relieved-sound s k m (leb-false mailboxes m (p .0))) (lost store s st m) m b (ltb-false longest (length b) (p .1 .0)) (p .1 .1 .1 .0)
+          (s .procs .queue (atMailbox m)),
+    ),
+  )
   performed (receive m) p = (tt, λ st. fetched store s st m (s .box m) refl)
   performed (read n) p = (λ z. refl, λ st. (rw (st .in-hands (Plain.caller s)) (take-length (Plain.bytesIn (Plain.hand s))), st))
   performed release p = (tt, λ st. (refl, let-go store s st (Plain.caller s) _ refl refl))

@@ -7,7 +7,7 @@ use mathlib.Core.List.{List, _∷_}
 use mathlib.Core.Option.{Option, none, some}
 use lib.ListN.{length}
 use lib.Seq.{take-append-seam}
-use Rattle.plain.specs.Calls.{create, stop, end, yield, class, tick, send, receive, read, release, signal, wait}
+use Rattle.plain.specs.Calls.{create, stop, end, yield, class, tick, mailbox, send, receive, read, release, signal, wait}
 use Rattle.script.specs.Grammar.{Order, does, why, slice, words, given, sentence, order}
 use Rattle.script.specs.Request.{means, asking, requestOf, Tells}
 use Rattle.script.specs.Promises.{firstSpace, bytesOf, carried}
@@ -17,9 +17,9 @@ use Rattle.script.specs.declared.hex.Bytes.{Bytes}
 use Rattle.script.proofs.LimitLaws.{order-limited, room-fits}
 use Rattle.script.proofs.WordLaws.{rest, words-cut, words-begin}
 
--- a third space makes a fourth word, which no order has
-pub sentence-four : (w m l : List ℕ) → firstSpace l < length l → sentence (w ∷ m ∷ words l) ≡ none
-sentence-four w m l h =
+-- a fourth space makes a fifth word, which no order has
+pub sentence-five : (w x y l : List ℕ) → firstSpace l < length l → sentence (w ∷ x ∷ y ∷ words l) ≡ none
+sentence-five w x y l h =
     let more = words-begin (rest l (firstSpace l + 1)) in
     rw (words-cut l _ refl h, more .whole)
 
@@ -46,6 +46,7 @@ means-request (some (does end)) = refl
 means-request (some (does yield)) = refl
 means-request (some (does (class n))) = refl
 means-request (some (does tick)) = refl
+means-request (some (does (mailbox m c d))) = refl
 means-request (some (does (send n b))) = simp take-append-seam
 means-request (some (does (receive n))) = refl
 means-request (some (does (read n))) = refl

@@ -7,7 +7,7 @@ use mathlib.Core.Path.{_≡_, refl}
 use mathlib.Core.List.{List, [], _∷_, _++_, map}
 use mathlib.Core.Option.{Option, none, some}
 use lib.ListN.{replicate}
-use Rattle.plain.specs.Calls.{create, stop, end, yield, class, tick, send, receive, read, release, signal, wait}
+use Rattle.plain.specs.Calls.{create, stop, end, yield, class, tick, mailbox, send, receive, read, release, signal, wait}
 use Rattle.answers.specs.Ascii.{ascii}
 use Rattle.script.specs.Grammar.{Order, does, why, slice, order}
 
@@ -27,11 +27,14 @@ lines =
     ∷ ("wait 15", some (does (wait 15)))
     ∷ ("why 14", some (why 14))
     ∷ ("slice 3", some (slice 3))
+    ∷ ("mailbox 3 32 1", some (does (mailbox 3 32 1)))
     -- what the kernel refuses is a good line
     ∷ ("class 9", some (does (class 9)))
     ∷ ("send 300 -", some (does (send 300 [])))
     ∷ ("slice 0", some (slice 0))
     ∷ ("slice 65535", some (slice 65535))
+    ∷ ("mailbox 16 0 2", some (does (mailbox 16 0 2)))
+    ∷ ("mailbox 65535 65535 65535", some (does (mailbox 65535 65535 65535)))
     -- numbers
     ∷ ("read 512", some (does (read 512)))
     ∷ ("read 513", none)
@@ -43,6 +46,13 @@ lines =
     ∷ ("create -1", none)
     ∷ ("slice 65536", none)
     ∷ ("slice 03", none)
+    ∷ ("mailbox 65536 8 0", none)
+    ∷ ("mailbox 3 65536 0", none)
+    ∷ ("mailbox 3 8 65536", none)
+    ∷ ("mailbox 03 8 0", none)
+    ∷ ("mailbox 3 08 0", none)
+    ∷ ("mailbox 3 8 00", none)
+    ∷ ("mailbox 3 8 -", none)
     -- bytes
     ∷ ("send 3 4", none)
     ∷ ("send 3 4A", none)
@@ -60,6 +70,16 @@ lines =
     ∷ ("slice 3 3", none)
     ∷ ("send 3", none)
     ∷ ("send 3 41 42", none)
+    ∷ ("create 3 8 1", none)
+    ∷ ("mailbox", none)
+    ∷ ("mailbox 3", none)
+    ∷ ("mailbox 3 8", none)
+    ∷ ("mailbox 3 8 1 1", none)
+    ∷ ("mailbox 3 8 ", none)
+    ∷ ("mailbox 3 8 1 ", none)
+    ∷ ("mailbox 3  8 1", none)
+    ∷ ("mailbox  3 8", none)
+    ∷ ("Mailbox 3 8 1", none)
     ∷ (" tick", none)
     ∷ ("tick ", none)
     ∷ ("create  2", none)

@@ -14,7 +14,7 @@ use borrow.Author.Tests.{leb-true}
 use Rattle.lists.specs.Lists.{if_then_else_}
 use Rattle.plain.specs.Calls.{send, read}
 use Rattle.answers.specs.Ascii.{ascii}
-use Rattle.script.specs.Grammar.{Order, does, longestLine, largestRoom, mostBytes, words, same, number, pairs, atMost, bytes, beside, alone, reading, numbered, followed, given, sentence, order}
+use Rattle.script.specs.Grammar.{Order, does, longestLine, largestRoom, mostBytes, words, same, number, pairs, atMost, bytes, beside, alone, reading, numbered, followed, thrice, given, sentence, order}
 use Rattle.script.specs.Request.{requestOf}
 use Rattle.script.specs.declared.calls.Word.{Word}
 use Rattle.script.specs.declared.calls.Word.the-variants as Word
@@ -86,7 +86,8 @@ sentence-limited [] = bad-limited
 sentence-limited (w ∷ []) = beside-limited w alone (omega arith)
 sentence-limited (w ∷ x ∷ []) = given-limited (number x) _ (λ n e. beside-limited w (numbered n) (search (needs, reading-limited n)))
 sentence-limited (w ∷ x ∷ y ∷ []) = given-limited (number x) _ (λ n e. beside-limited w (followed n y) (sending-limited n y, tt))
-sentence-limited (w ∷ x ∷ y ∷ z ∷ l) = bad-limited
+sentence-limited (w ∷ x ∷ y ∷ z ∷ []) = given-limited (number x) _ (λ a e. given-limited (number y) _ (λ b f. given-limited (number z) _ (λ c g. beside-limited w (thrice a b c) (omega arith))))
+sentence-limited (w ∷ x ∷ y ∷ z ∷ v ∷ l) = bad-limited
 
 pub order-limited : (line : List ℕ) → Limited (order line)
 unfolding order

@@ -1,4 +1,4 @@
--- "The replay desk": which order a line of a script is: a kernel call, request 1's question why a process waits, or request 3's naming of a slice.
+-- "The replay desk": which order a line of a script is: a kernel call, request 5's "mailbox" among them, request 1's question why a process waits, or request 3's naming of a slice.
 -- A line is the list of its bytes, without the newline. Assumes nothing.
 use Prim.Native.Nat.{ℕ, _+_, _*_, _-_}
 use Prim.Native.Char.{code}
@@ -9,7 +9,7 @@ use mathlib.Core.Option.{Option, none, some}
 use lib.ListN.{length}
 use lib.Dec.{ltb, leb, eqb}
 use Rattle.lists.specs.Lists.{if_then_else_}
-use Rattle.plain.specs.Calls.{Call, create, stop, end, yield, class, tick, send, receive, read, release, signal, wait}
+use Rattle.plain.specs.Calls.{Call, create, stop, end, yield, class, tick, mailbox, send, receive, read, release, signal, wait}
 use Rattle.answers.specs.Ascii.{ascii, space}
 
 -- ---- limits
@@ -105,7 +105,7 @@ abbrev pub bytes : List ℕ → Option (List ℕ)
 bytes [] = none
 bytes (x ∷ l) = if same (x ∷ l) (ascii "-") then some [] else atMost mostBytes (pairs (x ∷ l))
 
--- ---- orders: "create, stop, end, yield, class, tick, send, receive, read, release, signal, wait", request 1's "why", and request 3's "slice"
+-- ---- orders: "create, stop, end, yield, class, tick, send, receive, read, release, signal, wait", request 1's "why", request 3's "slice", and request 5's "mailbox"
 
 -- What a line asks of the desk: a kernel call, why a process waits, or a fresh start with so many ticks to a slice. Whether a line may name the slice is the desk's matter.
 pub data Order : Type 0 where
@@ -156,18 +156,28 @@ followed n x =
     ("send", given (bytes x) (λ b. some (does (send n b))))
     ∷ []
 
+-- the words that take three numbers: mailbox takes a mailbox, a capacity and a mode
+abbrev pub thrice : ℕ → ℕ → ℕ → List (String × Option Order)
+thrice a b c =
+    ("mailbox", some (does (mailbox a b c)))
+    ∷ []
+
 abbrev pub ofTwo : List ℕ → List ℕ → Option Order
 ofTwo w x = given (number x) (λ n. beside w (numbered n))
 
 abbrev pub ofThree : List ℕ → List ℕ → List ℕ → Option Order
 ofThree w x y = given (number x) (λ n. beside w (followed n y))
 
+abbrev pub ofFour : List ℕ → List ℕ → List ℕ → List ℕ → Option Order
+ofFour w x y z = given (number x) (λ a. given (number y) (λ b. given (number z) (λ c. beside w (thrice a b c))))
+
 abbrev pub sentence : List (List ℕ) → Option Order
 sentence [] = none
 sentence (w ∷ []) = beside w alone
 sentence (w ∷ x ∷ []) = ofTwo w x
 sentence (w ∷ x ∷ y ∷ []) = ofThree w x y
-sentence (w ∷ x ∷ y ∷ z ∷ l) = none
+sentence (w ∷ x ∷ y ∷ z ∷ []) = ofFour w x y z
+sentence (w ∷ x ∷ y ∷ z ∷ v ∷ l) = none
 
 -- Which order a line is. "Any other line, a blank one or one over 1,300 bytes gives `bad`": those are none.
 unfoldable pub order : List ℕ → Option Order

@@ -6,10 +6,10 @@ use mathlib.Core.List.{List, [], _++_}
 use mathlib.Core.Option.{Option, none, some}
 use lib.ListN.{length, take, replicate}
 use Rattle.plain.specs.Calls as Plain
-use Rattle.plain.specs.Calls.{create, stop, end, yield, class, tick, send, receive, read, release, signal, wait}
+use Rattle.plain.specs.Calls.{create, stop, end, yield, class, tick, mailbox, send, receive, read, release, signal, wait}
 use Rattle.script.specs.Grammar.{Order, does, why, slice, order, mostBytes, largestRoom}
 use Rattle.script.specs.declared.calls.Quiet.{Quiet}
-use Rattle.script.specs.declared.calls.Quiet.the-variants.{Create, Stop, End, Yield, Class, Tick, Receive, Release, Signal, Wait}
+use Rattle.script.specs.declared.calls.Quiet.the-variants.{Create, Stop, End, Yield, Class, Tick, Mailbox, Receive, Release, Signal, Wait}
 use Rattle.script.specs.declared.calls.Word.{Word}
 use Rattle.script.specs.declared.calls.Word.the-variants.{Bad, Call, Send, Read, Why, Slice}
 use Rattle.script.specs.declared.calls.Request.{Request}
@@ -22,6 +22,7 @@ called End = end
 called Yield = yield
 called (Class n) = class n
 called Tick = tick
+called (Mailbox m c d) = mailbox m c d
 called (Receive n) = receive n
 called Release = release
 called (Signal n) = signal n
@@ -55,6 +56,7 @@ requestOf (some (does end)) = asking (Call End) []
 requestOf (some (does yield)) = asking (Call Yield) []
 requestOf (some (does (class n))) = asking (Call (Class n)) []
 requestOf (some (does tick)) = asking (Call Tick) []
+requestOf (some (does (mailbox m c d))) = asking (Call (Mailbox m c d)) []
 requestOf (some (does (send n b))) = asking (Send n) b
 requestOf (some (does (receive n))) = asking (Call (Receive n)) []
 requestOf (some (does (read n))) = asking (Read n) []

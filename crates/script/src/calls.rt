@@ -8,7 +8,7 @@ use crate::words::is_word;
 ghost use mathlib.Core.Path.{_≡_};
 ghost use mathlib.Core.List.{[], _∷_};
 ghost use mathlib.Core.Option.{none};
-ghost use Rattle.script.specs.Grammar.{beside, alone, reading, numbered, followed, ofTwo, ofThree, sentence, words, bytes};
+ghost use Rattle.script.specs.Grammar.{beside, alone, reading, numbered, followed, thrice, ofTwo, ofThree, ofFour, sentence, words, bytes};
 ghost use Rattle.script.specs.Promises.{carried};
 ghost use Rattle.script.specs.Request.{asking, requestOf};
 
@@ -20,6 +20,7 @@ pub enum Quiet {
     Yield,
     Class(u32),
     Tick,
+    Mailbox(u32, u32, u32),
     Receive(u32),
     Release,
     Signal(u32),
@@ -151,6 +152,16 @@ fn followed(w: &[u8], n: u32, more: &[u8]) -> Request
     bad()
 }
 
+// The words that take three numbers.
+fn thrice(w: &[u8], a: u32, b: u32, c: u32) -> Word
+    ensures { λ r. ⌜ asking r [] ≡ requestOf (beside (now (w .entry)) (thrice a b c)) ⌝ }
+{
+    if is_word(w, b"mailbox") {
+        return Word::Call(Quiet::Mailbox(a, b, c));
+    }
+    Word::Bad
+}
+
 fn of_two(w: &[u8], digits: &[u8]) -> Word
     ensures { λ r. ⌜ asking r [] ≡ requestOf (ofTwo (now (w .entry)) (now (digits .entry))) ⌝ }
 {
@@ -169,8 +180,40 @@ fn of_three(w: &[u8], digits: &[u8], more: &[u8]) -> Request
     followed(w, n, more)
 }
 
+fn of_four(w: &[u8], x: &[u8], y: &[u8], z: &[u8]) -> Word
+    ensures { λ r. ⌜ asking r [] ≡ requestOf (ofFour (now (w .entry)) (now (x .entry)) (now (y .entry)) (now (z .entry))) ⌝ }
+{
+    let Number::Is(a) = read_number(x) else {
+        return Word::Bad;
+    };
+    let Number::Is(b) = read_number(y) else {
+        return Word::Bad;
+    };
+    let Number::Is(c) = read_number(z) else {
+        return Word::Bad;
+    };
+    thrice(w, a, b, c)
+}
+
+// A line of more than two words: w and x, and what follows the second space.
+fn three_or_more(w: &[u8], x: &[u8], rest: &[u8]) -> Request
+    ensures { λ r. ⌜ r ≡ requestOf (sentence (now (w .entry) ∷ now (x .entry) ∷ words (now (rest .entry)))) ⌝ }
+{
+    let end = first_space(rest);
+    if end == rest.len() {
+        return of_three(w, x, rest);
+    }
+    let start = end + 1;
+    let y = &rest[..end];
+    let z = &rest[start..];
+    if first_space(z) < z.len() {
+        return bad();
+    }
+    asking(of_four(w, x, y, z))
+}
+
 // A line of more than one word: w, and what follows the first space.
-fn two_or_three(w: &[u8], rest: &[u8]) -> Request
+fn two_or_more(w: &[u8], rest: &[u8]) -> Request
     ensures { λ r. ⌜ r ≡ requestOf (sentence (now (w .entry) ∷ words (now (rest .entry)))) ⌝ }
 {
     let end = first_space(rest);
@@ -178,12 +221,7 @@ fn two_or_three(w: &[u8], rest: &[u8]) -> Request
         return asking(of_two(w, rest));
     }
     let start = end + 1;
-    let digits = &rest[..end];
-    let more = &rest[start..];
-    if first_space(more) < more.len() {
-        return bad();
-    }
-    of_three(w, digits, more)
+    three_or_more(w, &rest[..end], &rest[start..])
 }
 
 pub(crate) fn sentence(line: &[u8]) -> Request
@@ -194,5 +232,5 @@ pub(crate) fn sentence(line: &[u8]) -> Request
         return asking(alone(line));
     }
     let start = end + 1;
-    two_or_three(&line[..end], &line[start..])
+    two_or_more(&line[..end], &line[start..])
 }

@@ -17,8 +17,10 @@ pub const CLASSES: usize = 5;
 
 pub const MAILBOXES: usize = 16;
 
-// Messages that a mailbox holds at most.
-pub const CAPACITY: usize = 8;
+// Messages that a mailbox takes at the fresh start, and the most that one may be set to take.
+pub const USUAL_CAPACITY: usize = 8;
+
+pub const MOST_QUEUED: usize = 32;
 
 pub const BUFFERS: usize = 32;
 

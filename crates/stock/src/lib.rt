@@ -3,6 +3,7 @@
 use bits::has_bit;
 use boxes::Boxes;
 use boxes::bytes_of;
+use habits::capacity_of;
 use mail::Mail;
 use rings::Places;
 use sizes::BUFFERS;
@@ -16,13 +17,12 @@ ghost use lib.ListN.{length};
 ghost use Rattle.rings.specs.Decides.{Decides};
 ghost use Rattle.plain.specs.Sizes.{buffers};
 ghost use Rattle.boxes.specs.Box.{num, tablesOf};
+ghost use Rattle.habits.specs.Tables.{capacityIn};
 ghost use Rattle.mail.specs.Carries.{numbers};
 ghost use Rattle.stock.specs.Stock.{Decision};
 ghost use Rattle.stock.specs.Tests.{AllBuffers, BufferFits, Few, Grasped, Handed, Queued};
 
 const MAILBOXES: u32 = sizes::MAILBOXES as u32;
-
-const CAPACITY: u32 = sizes::CAPACITY as u32;
 
 const NODES: usize = sizes::BUFFERS + sizes::MAILBOXES;
 
@@ -42,15 +42,15 @@ fn queued(boxes: Boxes) -> Places
     rings::standing(&next, &prev, BUFFERS)
 }
 
-// Whether no mailbox holds more than its capacity.
-fn few(boxes: Boxes) -> bool
-    ensures { λ r. ⌜ Decides r (Few (tablesOf boxes)) ⌝ }
+// Whether no mailbox holds more than it takes.
+fn few(boxes: Boxes, capacity: [u8; sizes::MAILBOXES]) -> bool
+    ensures { λ r. ⌜ Decides r (Few (tablesOf boxes) (capacityIn capacity)) ⌝ }
 {
     let links = boxes.next;
     let next = bytes_of(links);
     let mut m = 0;
     while m < MAILBOXES {
-        if boxes::at_least(&next, m, CAPACITY + 1) {
+        if boxes::at_least(&next, m, capacity_of(capacity, m) + 1) {
             return false;
         }
         m += 1;
@@ -122,16 +122,16 @@ fn buffers_fit(at: [u8; BUFFERS], length: [u16; BUFFERS], free: Bids) -> bool
     all
 }
 
-// Whether k holds sound mail.
-pub fn stocked(k: Mail) -> bool
-    ensures { λ r. ⌜ Decision (numbers k) r ⌝ }
+// Whether k holds sound mail, where each mailbox takes as many messages as `capacity` has for it.
+pub fn stocked(k: Mail, capacity: [u8; sizes::MAILBOXES]) -> bool
+    ensures { λ r. ⌜ Decision (numbers k) (capacityIn capacity) r ⌝ }
 {
     let boxes = k.boxes;
     let q = queued(boxes);
     if !q.ok {
         return false;
     }
-    if !few(boxes) {
+    if !few(boxes, capacity) {
         return false;
     }
     let in_boxes = q.at;

@@ -5,7 +5,8 @@ ghost use mathlib.Core.Path.{_≡_};
 ghost use lib.Dec.{eqb, ltb};
 ghost use Rattle.plain.specs.Calls.{on, noClass, noMailbox, noSemaphore};
 ghost use Rattle.plain.specs.Listing.{fewRows};
-ghost use Rattle.plain.specs.Start.{sliceOf, startRefusals};
+ghost use Rattle.plain.specs.Mailboxes.{noSize};
+ghost use Rattle.plain.specs.Start.{startRefusals};
 ghost use Rattle.plain.specs.Sizes.{processes, buffers, longest, highestCount, storeSize};
 ghost use Rattle.verdicts.specs.Chain.{orElse, found};
 use sizes::Pid;
@@ -15,6 +16,8 @@ const PROCESSES: u32 = sizes::PROCESSES as u32;
 const CLASSES: u32 = sizes::CLASSES as u32;
 
 const MAILBOXES: u32 = sizes::MAILBOXES as u32;
+
+const MOST_QUEUED: u32 = sizes::MOST_QUEUED as u32;
 
 const BUFFERS: u32 = sizes::BUFFERS as u32;
 
@@ -70,7 +73,7 @@ fn either(a: bool, b: bool) -> bool
 
 // A fresh start with a slice named. It looks at no state.
 pub fn on_fresh_start(slice: u32) -> Verdict
-    ensures { λ r. ⌜ r ≡ found (startRefusals (sliceOf slice)) ⌝ }
+    ensures { λ r. ⌜ r ≡ found (startRefusals slice) ⌝ }
 {
     let v = Verdict { code: 0, number: 0 };
     v.or(either(slice == 0, LONGEST_SLICE < slice), 16)
@@ -112,14 +115,32 @@ pub fn on_class(f: Facts, class: u32) -> Verdict
     on_idle(f).or(CLASSES <= class, 2)
 }
 
-pub fn on_send(f: Facts, held: usize, m: u32, n: usize, full: bool, free: u32) -> Verdict
-    ensures { λ r. ⌜ r ≡ found (on 14 (not (f .sound)) ∷ on 15 (not (eqb held storeSize)) ∷ noMailbox m ∷ on 6 (ltb longest n) ∷ on 11 full ∷ on 12 (eqb free buffers) ∷ []) ⌝ }
+// Whether a mailbox may not be set so: 1 to 32 messages, and a mode of 0 or 1.
+fn no_size(capacity: u32, mode: u32) -> bool
+    ensures { λ r. ⌜ r ≡ noSize capacity mode ⌝ }
+{
+    either(either(capacity == 0, MOST_QUEUED < capacity), 1 < mode)
+}
+
+// It is busy with messages or waiters.
+pub fn on_mailbox(f: Facts, m: u32, capacity: u32, mode: u32, busy: bool) -> Verdict
+    ensures { λ r. ⌜ r ≡ found (on 14 (not (f .sound)) ∷ noMailbox m ∷ on 17 (noSize capacity mode) ∷ on 18 busy ∷ []) ⌝ }
+{
+    on_tick(f)
+        .or(MAILBOXES <= m, 3)
+        .or(no_size(capacity, mode), 17)
+        .or(busy, 18)
+}
+
+// The mailbox refuses where it is full and does not drop; what it drops has left its buffer free.
+pub fn on_send(f: Facts, held: usize, m: u32, n: usize, refuses: bool, free: u32) -> Verdict
+    ensures { λ r. ⌜ r ≡ found (on 14 (not (f .sound)) ∷ on 15 (not (eqb held storeSize)) ∷ noMailbox m ∷ on 6 (ltb longest n) ∷ on 11 refuses ∷ on 12 (eqb free buffers) ∷ []) ⌝ }
 {
     on_tick(f)
         .or(held != sizes::STORE_SIZE, 15)
         .or(MAILBOXES <= m, 3)
         .or(sizes::LONGEST < n, 6)
-        .or(full, 11)
+        .or(refuses, 11)
         .or(free == BUFFERS, 12)
 }
 

@@ -10,8 +10,8 @@ returns c = record { whole = λ h. absurd (c .before .if1 .taken h); other = λ 
 
 returns-2 : tie.Need-returns-2
 unfolding image
-returns-2 c = let g = gots (gots (gots (gots (c .before .before .before .before .before .before .procs .ensures) (c .before .before .before .before .before .mail .ensures)) (c .before .before .before .halfwords .ensures)) (c .before .bytes .ensures)) (c .settings .ensures) in
-    record { whole = λ h. got-whole h g; other = λ h. absurd (h (c .before .before .before .before .before .before .before .if1 .left)) }
+returns-2 c = let g = gots (gots (gots (gots (c .before .before .before .before .before .before .before .before .procs .ensures) (c .before .before .before .before .before .before .before .mail .ensures)) (c .before .before .before .before .before .halfwords .ensures)) (c .before .before .bytes .ensures)) (c .settings .ensures) in
+    record { whole = λ h. got-whole h g; other = λ h. absurd (h (c .before .before .before .before .before .before .before .before .before .if1 .left)) }
 
 pub read-spec : {M : Type 1} → statement M
-read-spec = tie.close (tie.spec (λ c κs. search needs) returns (λ c κs. search needs) (λ c κs. search needs) (λ c. search needs) (λ c κs. search needs) (λ c κs. search needs) (λ c κs. search needs) returns-2)
+read-spec = tie.close (tie.spec (λ c κs. search needs) returns (λ c κs. search needs) (λ c κs. search needs) (λ c. search needs) (λ c κs. search needs) (λ c. search needs) (λ c κs. search needs) (λ c κs. search needs) returns-2)

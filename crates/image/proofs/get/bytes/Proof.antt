@@ -10,10 +10,10 @@ use Rattle.image.proofs.get.bytes.Statement.{statement}
 use Rattle.image.proofs.get.bytes.Tie as tie
 
 abbrev Inv-loop : tie.InvT-loop
-Inv-loop area at out₀ i₀ out i = (i ≤ 32) × (at + 32 ≤ length area) × (length out ≡ 32) × Got at i (each byte (take i out)) area
+Inv-loop area at out₀ i₀ out i = (i ≤ length out) × (at + length out ≤ length area) × (length out ≡ length out₀) × Got at i (each byte (take i out)) area
 
 abbrev μ-loop : tie.MeasureT-loop
-μ-loop area at out₀ i₀ out i = 32 - i
+μ-loop area at out₀ i₀ out i = length out - i
 
 returns : tie.Need-returns Inv-loop μ-loop
 returns c = no-got (c .before .has-room .ensures) (c .if1 .taken)
@@ -21,11 +21,21 @@ returns c = no-got (c .before .has-room .ensures) (c .if1 .taken)
 loop-holds : tie.Need-loop-holds Inv-loop μ-loop
 loop-holds c = (search needs, has-room _ _ _ (c .before .has-room .ensures) (c .if1 .left), refl, record { there = λ h. refl })
 
+loop-less : tie.Need-loop-less Inv-loop μ-loop
+loop-less c = simp length-set (omega arith)
+
 loop-again : tie.Need-loop-again Inv-loop μ-loop
 loop-again c =
     let l = c .before .before .loop in
-    let x = c .before .before .before .before .before .before .args in
-    (search needs, l .inv .1, simp length-set (l .inv .2), got-more byte (l .out) (l .i) _ (omega arith) refl (l .inv .3) (got-one (x .area .now) (x .at + l .i)))
+    let x = c .before .before .before .before .before .before .before .args in (
+      simp length-set (omega arith),
+      simp length-set (omega arith),
+      simp length-set (l .inv .2),
+      got-more byte (l .out) (l .i) _ (omega arith) refl (l .inv .3) (got-one (x .area .now) (x .at + l .i)),
+    )
+
+same-length : tie.Need-same-length Inv-loop μ-loop
+same-length c = c .before .loop .inv .2
 
 returns-2 : tie.Need-returns-2 Inv-loop μ-loop
 returns-2 c =
@@ -45,6 +55,7 @@ bytes-spec =
     (λ c. search needs)
     (λ c. search needs)
     (λ c. search needs)
-    (λ c. search needs)
+    loop-less
     loop-again
+    same-length
     returns-2)

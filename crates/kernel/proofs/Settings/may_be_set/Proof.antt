@@ -1,7 +1,7 @@
 -- `kernel::Settings::may_be_set` meets its contract. Assumes nothing.
+use Rattle.kernel.proofs.Setting.{no-slice, some-slice}
 use Rattle.kernel.proofs.Settings.may_be_set.Statement.{statement}
 use Rattle.kernel.proofs.Settings.may_be_set.Tie as tie
-use Rattle.kernel.proofs.Setting.{some-slice}
 use borrow.Author.Needs.{needs}
 use mir.Syntax.{w8}
 use mir.Val.{Fits}
@@ -12,7 +12,10 @@ low : (s : tie.Start) → Fits w8 (s .args .self .slice)
 low s = search needs
 
 returns : tie.Need-returns
-returns c = some-slice (c .before .args .self) (omega (arith, low (c .before) .fits))
+returns c = no-slice (c .before .before .args .self) (c .if1 .taken)
+
+returns-2 : tie.Need-returns-2
+returns-2 c = some-slice (c .before .before .before .before .before .args .self) (c .before .before .before .if1 .left) (omega (arith, low (c .before .before .before .before .before) .fits)) (c .may-be-set .result) (c .may-be-set .ensures)
 
 pub may-be-set-spec : {M : Type 1} → statement M
-may-be-set-spec = tie.close (tie.spec returns)
+may-be-set-spec = tie.close (tie.spec returns (λ c κs. search needs) returns-2)

@@ -14,7 +14,7 @@ returns c = rw (words-one (c .before .before .before .before .before .args .line
 returns-2 : tie.Need-returns-2
 returns-2 c =
     let end = c .before .before .before .before .first-space in
-    rw (words-cut (c .before .before .before .before .before .before .args .line .now) (end .result) (end .ensures .0) (omega arith)) (c .two-or-three .ensures)
+    rw (words-cut (c .before .before .before .before .before .before .args .line .now) (end .result) (end .ensures .0) (omega arith)) (c .two-or-more .ensures)
 
 pub sentence-spec : {M : Type 1} → statement M
 sentence-spec =

@@ -1,0 +1,137 @@
+-- Mailboxes that drop and mailboxes that refuse: which sends they take, and what they keep.
+-- Assumes nothing.
+use Prim.Native.Nat.{ℕ, suc, _+_, _≤_, _<_}
+use mathlib.Core.Path.{_≡_, refl, sym, ap, ap₂, _∙_, subst}
+use mathlib.Core.Bool.{Bool, true, false, not, _&&_, true≢false}
+use mathlib.Core.Logic.{_≢_, _⊎_, inl, inr, ⊎-elim}
+use mathlib.Core.List.{List, [], _∷_, _++_, map, List·Memᴰ, List·Memᴰ·head, List·Memᴰ·tail}
+use native.Mathlib.Omega.{arith}
+use lib.ListN.{length, drop}
+use lib.Dec.{ltb, leb, eqb}
+use borrow.Author.Tests.{eq-eqb, ne-eqb, le-ltb, lt-leb, leb-false}
+use Rattle.lists.specs.Lists.{if_then_else_, put, occurs, lowest}
+use Rattle.lists.proofs.Laws.{either, le?, put-same, put-cases, one-same, lowest-most}
+use Rattle.plain.specs.Sizes.{mailboxes, buffers, longest, atMailbox}
+use Rattle.plain.specs.State.{Message, Settings, State, fill, buffersOf, held, free, freeBuffer}
+use Rattle.plain.specs.Mailboxes.{isFull, drops, refuses, overflows, relieved, bufferFor, noBuffer}
+use Rattle.plain.specs.Calls.{Call, send, Outcome, deliver, perform, on, refusals, judge, step}
+use Rattle.plain.specs.Sound.{Mail, Sound}
+use Rattle.plain_laws.specs.History.{Kind, falls, posts, fetches, sets, other, kind, Passed, First, as-one, isDone, isDropped, isRefusal, settingsBy, dropped}
+use Rattle.plain_laws.specs.Mailboxes.{Kept}
+use Rattle.plain_laws.proofs.Accepted.{accepts}
+use Rattle.plain_laws.proofs.Calls.{judged, accepted}
+use Rattle.plain_laws.proofs.Mail.{held-box}
+use Rattle.plain_laws.proofs.Refusals.{accepted-passed, unchanged, settings-by}
+use Rattle.plain_laws.proofs.Seats.{head-in}
+use Rattle.plain_laws.proofs.Relief.{relieved-cases, overflow-full, no-overflow}
+
+-- ---- sends
+
+-- one that drops does not refuse
+unrefused : (m : ℕ) (s : State) → drops m s ≡ true → refuses m s ≡ false
+unfolding refuses
+unrefused m s e = rw e (go (isFull m s))
+  where
+    go : (a : Bool) → (a && false) ≡ false
+    go true = refl
+    go false = refl
+
+overflow-drops : (m : ℕ) (s : State) → overflows m s ≡ true → drops m s ≡ true
+unfolding overflows
+overflow-drops m s = go (isFull m s) (drops m s)
+  where
+    go : (a b : Bool) → (a && b) ≡ true → b ≡ true
+    go true b e = e
+    go false b e = absurd (true≢false (sym e))
+
+pub never-11 : (s : State) (m : ℕ) (b : List ℕ) → drops m s ≡ true → step s (send m b) .answer .code ≢ 11
+unfolding step refusals perform
+never-11 s m b e = go (leb mailboxes m) (ltb longest (length b)) (refuses m s) (noBuffer m s) (unrefused m s e)
+  where
+    go : (a c r d : Bool) → r ≡ false → judge (on 3 a ∷ on 6 c ∷ on 11 r ∷ on 12 d ∷ []) s (perform s (send m b)) .answer .code ≢ 11
+    go true c r d z = omega arith
+    go false true r d z = omega arith
+    go false false true d z = absurd (true≢false z)
+    go false false false true z = omega arith
+    go false false false false z = omega arith
+
+module _ (s : State) (k : Sound s) (m : ℕ) (o : overflows m s ≡ true) where
+  -- there is an oldest message
+  full : 1 ≤ length (s .box m)
+  full = omega (arith, overflow-full m s o, k .settings .sized .some m)
+
+  -- whose buffer is free once it is lost
+  freed : m < mailboxes → (l : List Message) → s .box m ≡ l → freeBuffer (fill m (drop 1 l) s) ≢ buffers
+  unfolding freeBuffer
+  freed h [] e = absurd (omega (arith, full, ap length e))
+  freed h (x ∷ l) e =
+      let b : ℕ = x .buffer in
+      let less : held (put (s .box) m l) (s .hand) b + 1 ≤ held (s .box) (s .hand) b = omega (arith, held-box (s .box) (s .hand) m l b h, ap (λ (a : List Message). occurs b (buffersOf a)) e, one-same b) in
+      let here : b < buffers = ⊎-elim (λ u. absurd (omega (arith, k .mail .no-more-buffers b u))) (λ u. u) (le? buffers b) in
+      let none : free (fill m l s) b ≡ true = eq-eqb (held (put (s .box) m l) (s .hand) b) 0 (omega (arith, k .mail .held-once b)) in
+      omega (arith, lowest-most 0 buffers b (free (fill m l s)) (omega arith) (omega arith) none)
+
+  pub taken : (b : List ℕ) → m < mailboxes → length b ≤ longest → isDone (step s (send m b)) ≡ true
+  unfolding step refusals perform
+  taken b h short =
+      rw (
+        lt-leb mailboxes m h,
+        le-ltb longest (length b) short,
+        unrefused m s (overflow-drops m s o),
+        relieved-cases m s (λ t. eqb (freeBuffer t) buffers ≡ false) (λ e. absurd (true≢false (sym o ∙ e))) (λ e. ne-eqb (freeBuffer (fill m (drop 1 (s .box m)) s)) buffers (freed h (s .box m) refl)),
+      ) refl
+
+  pub oldest : (b : List ℕ) → isDone (step s (send m b)) ≡ true → step s (send m b) .next .box m ≡ drop 1 (s .box m) ++ (record { buffer = bufferFor m s; bytes = b } ∷ [])
+  unfolding step refusals perform
+  oldest b done =
+      let x : Message = record { buffer = bufferFor m s; bytes = b } in
+      let p = accepted-passed s (send m b) (rw done refl) in
+      ap (λ (u : Outcome). u .next .box m) (accepted (refusals s (send m b)) s (perform s (send m b)) p) ∙ queued x (leb-false mailboxes m (p .0)) (s .procs .queue (atMailbox m)) refl
+    where
+      lost : relieved m s .box m ≡ drop 1 (s .box m)
+      lost = relieved-cases m s (λ t. t .box m ≡ drop 1 (s .box m)) (λ e. absurd (true≢false (sym o ∙ e))) (λ e. put-same (s .box) m (drop 1 (s .box m)))
+
+      queued : (x : Message) → m < mailboxes → (l : List ℕ) → s .procs .queue (atMailbox m) ≡ l → deliver m x l (relieved m s) .box m ≡ drop 1 (s .box m) ++ (x ∷ [])
+      queued x h [] e = put-same (relieved m s .box) m (relieved m s .box m ++ (x ∷ [])) ∙ ap (λ (l : List Message). l ++ (x ∷ [])) lost
+      queued x h (w ∷ l) e = absurd (omega (arith, full, ap length (k .waits .boxes m w h (head-in (s .settings .slice) (s .procs) (k .seated) (atMailbox m) w l e))))
+
+-- ---- what is kept
+
+pub keeps : (s : State) (c : Call) (m : ℕ) (x : Message) → (isFull m s ≡ false) ⊎ (drops m s ≡ false) → List·Memᴰ x (s .box m) → Kept m x (step s c .next)
+unfolding step
+keeps s c m x h o = judged (Kept m x) (refusals s c) s (perform s c) (inl o) (λ p. accepts s c .keeps m x (no-overflow m s h) o)
+
+undropped : (m : ℕ) (s : State) (i : Kind) → overflows m s ≡ false → isDropped m s i ≡ false
+undropped m s falls e = refl
+undropped m s (posts j) e = rw e (go (eqb j m))
+  where
+    go : (a : Bool) → (a && false) ≡ false
+    go true = refl
+    go false = refl
+undropped m s (fetches j) e = refl
+undropped m s (sets j c d) e = refl
+undropped m s other e = refl
+
+mode-by : (i : Kind) (x : Settings) (m : ℕ) → x .mode m ≢ 1 → ((n : ℕ) → sets m n 1 ≡ i → ⊥) → settingsBy i x .mode m ≢ 1
+mode-by falls x m h u = h
+mode-by (posts j) x m h u = h
+mode-by (fetches j) x m h u = h
+mode-by (sets j c d) x m h u = put-cases (λ (a : ℕ). a ≢ 1) (x .mode) j d m (λ e z. u c (ap₂ (λ (a b : ℕ). sets a c b) e (sym z))) (λ e. h)
+mode-by other x m h u = h
+
+mode-after : (s : State) (c : Call) (m : ℕ) → s .settings .mode m ≢ 1 → ((n : ℕ) → sets m n 1 ≡ kind c → ⊥) → step s c .next .settings .mode m ≢ 1
+mode-after s c m h u = ⊎-elim
+    (λ e. subst (λ (t : State). t .settings .mode m ≢ 1) (sym (unchanged s c e)) h)
+    (λ e. subst (λ (x : Settings). x .mode m ≢ 1) (sym (settings-by s c e)) (mode-by (kind c) (s .settings) m h u))
+    (either (isRefusal (step s c .answer)))
+
+pub none-dropped : (s : State) (m : ℕ) (cs : List Call) → s .settings .mode m ≢ 1 → ((n : ℕ) → List·Memᴰ (sets m n 1) (map kind cs) → ⊥) → dropped m s cs ≡ 0
+unfolding dropped
+none-dropped s m [] h u = refl
+none-dropped s m (c ∷ cs) h u =
+    rw (undropped m s (kind c) (no-overflow m s (inr (ne-eqb (s .settings .mode m) 1 h))))
+    (omega (arith, not-counted (isDone (step s c)), none-dropped (step s c .next) m cs (mode-after s c m h (λ n e. u n (List·Memᴰ·head e))) (λ n i. u n (List·Memᴰ·tail i))))
+  where
+    not-counted : (a : Bool) → as-one (a && false) ≡ 0
+    not-counted true = refl
+    not-counted false = refl

@@ -1,0 +1,33 @@
+-- `script::calls::two_or_more` meets its contract.
+-- Assumes nothing.
+use mathlib.Core.Path.{sym, _∙_}
+use native.Mathlib.Omega.{arith}
+use lib.Seq.{length-take-le}
+use borrow.Author.Needs.{needs}
+use Rattle.script.proofs.WordLaws.{words-one, words-cut}
+use Rattle.script.proofs.calls.two_or_more.Statement.{statement}
+use Rattle.script.proofs.calls.two_or_more.Tie as tie
+
+returns : tie.Need-returns
+returns c = rw (words-one (c .before .before .before .before .before .before .args .rest .now) (sym (c .before .before .before .first-space .ensures .0) ∙ c .before .before .if1 .taken)) (c .asking .ensures ∙ c .before .of-two .ensures)
+
+returns-2 : tie.Need-returns-2
+returns-2 c =
+    let end = c .before .before .before .before .first-space in
+    rw (words-cut (c .before .before .before .before .before .before .before .args .rest .now) (end .result) (end .ensures .0) (omega arith)) (c .three-or-more .ensures)
+
+pub two-or-more-spec : {M : Type 1} → statement M
+two-or-more-spec =
+    tie.close
+    (tie.spec
+    (λ c κs. search needs)
+    (λ c κs. search needs)
+    (λ c κs. search needs)
+    returns
+    (λ c. search needs)
+    (λ c. sym (length-take-le _ _ (search needs)))
+    (λ c. search needs)
+    (λ c. search needs)
+    (λ c. search needs)
+    (λ c κs. search needs)
+    returns-2)
