@@ -17,6 +17,10 @@ pub const COUNT_AT_LIMIT: u32 = 13;
 pub const NOT_SOUND: u32 = 14;
 pub const NOT_A_STORE: u32 = 15;
 pub const NO_SUCH_SLICE: u32 = 16;
+/// The capacity or the mode of a mailbox is outside its range.
+pub const NO_SUCH_SIZE: u32 = 17;
+/// The mailbox has messages or waiters.
+pub const MAILBOX_BUSY: u32 = 18;
 pub const CALLER_WAITS: u32 = 32;
 
 #[derive(Clone, Copy, Debug, PartialEq, Eq)]

@@ -20,6 +20,8 @@ pub enum Call {
     Signal(u32),
     Wait(u32),
     Why(u32),
+    /// Which one, its capacity and its mode.
+    Mailbox(u32, u32, u32),
 }
 
 /// What an answer has beside its three numbers.
@@ -53,6 +55,7 @@ impl Kernel {
                 let (answer, reason) = self.why(*name);
                 return (answer, reason.map(Told::Reason));
             }
+            Call::Mailbox(mailbox, capacity, mode) => self.mailbox(*mailbox, *capacity, *mode),
         };
         (answer, None)
     }

@@ -1,11 +1,13 @@
-//! What random scripts reached: the slices named, the codes answered, the names taken, the reasons told and the deepest states,
-//! to show that they are worth comparing.
+//! What random scripts reached: the slices named, the codes answered, the names taken, what was met at mailboxes, the reasons
+//! told and the deepest states, to show that they are worth comparing.
 
 use crate::answer::*;
 use crate::call::Call;
 use crate::desk::Desk;
 use crate::grammar::{named_slice, parse};
+use crate::junk::NEAR_MAILBOXES;
 use crate::kernel::*;
+use crate::mailboxes::{in_scripts, History};
 use crate::names::{Born, Kind, IN_SCRIPTS};
 use crate::scripts::Questioned;
 use crate::why::KINDS;
@@ -40,6 +42,10 @@ pub struct Coverage {
     pub used_up: BTreeSet<u32>,
     /// How often a name of each kind was given to each call that takes one.
     pub names: BTreeMap<(&'static str, Kind), u64>,
+    /// How often a call met each kind of thing at a mailbox.
+    pub mailboxes: BTreeMap<&'static str, u64>,
+    /// Bad lines that are nearly settings of mailboxes.
+    pub near_mailboxes: BTreeSet<&'static str>,
 }
 
 /// The calls that take a name.
@@ -72,29 +78,26 @@ impl Coverage {
         self.styles.insert(script.style());
         let mut desk = Desk::fresh();
         let mut born = Born::default();
+        let mut history = History::default();
         let mut begun_with = None;
         while let Some(line) = script.next_line() {
             let spends_the_last_tick = line == b"tick" && has_one_tick(desk.kernel());
-            self.add_name(&born, desk.kernel(), &line);
+            let call = parse(&line);
+            if let Some(call) = &call {
+                self.add_name(&born, desk.kernel(), call);
+                self.add_visit(&history, desk.kernel(), call);
+                history.follow(desk.kernel(), call);
+            }
             let answer = desk.answer(&line);
             born.follow(desk.kernel());
             self.lines += 1;
-            match begun_with {
-                None => {
-                    self.add_first_line(&line);
-                    begun_with = Some(beginning(&line, &answer));
-                }
-                Some(first) if named_slice(&line).is_some() => {
-                    self.named_later_after.insert(first);
-                }
-                Some(_) => (),
-            }
+            self.add_beginning(&mut begun_with, &line, &answer);
             if spends_the_last_tick {
                 self.used_up.insert(desk.kernel().slice);
             }
             match answer.split(' ').next().and_then(|code| code.parse().ok()) {
-                None => self.bad_lines += 1,
-                Some(code) => match parse(&line) {
+                None => self.add_bad_line(&line),
+                Some(code) => match call {
                     Some(Call::Why(name)) => self.add_question(desk.kernel(), name),
                     _ => *self.codes.entry(code).or_default() += 1,
                 },
@@ -103,18 +106,43 @@ impl Coverage {
         }
     }
 
+    /// Notes what a script begins with, and whether a slice is named later.
+    fn add_beginning(&mut self, begun_with: &mut Option<&'static str>, line: &[u8], answer: &str) {
+        match begun_with {
+            None => {
+                self.add_first_line(line);
+                *begun_with = Some(beginning(line, answer));
+            }
+            Some(first) if named_slice(line).is_some() => {
+                self.named_later_after.insert(first);
+            }
+            Some(_) => (),
+        }
+    }
+
+    fn add_bad_line(&mut self, line: &[u8]) {
+        self.bad_lines += 1;
+        self.near_mailboxes.extend(NEAR_MAILBOXES.into_iter().find(|near| near.as_bytes() == line));
+    }
+
     fn add_first_line(&mut self, line: &[u8]) {
         let slice = line.starts_with(b"slice").then(|| line.escape_ascii().to_string());
         *self.first_lines.entry(slice.unwrap_or(ANOTHER.to_string())).or_default() += 1;
     }
 
-    fn add_name(&mut self, born: &Born, kernel: &Kernel, line: &[u8]) {
-        let (call, name) = match parse(line) {
-            Some(Call::Stop(name)) => (NAMING[0], name),
-            Some(Call::Why(name)) => (NAMING[1], name),
+    fn add_name(&mut self, born: &Born, kernel: &Kernel, call: &Call) {
+        let (call, name) = match call {
+            Call::Stop(name) => (NAMING[0], name),
+            Call::Why(name) => (NAMING[1], name),
             _ => return,
         };
-        *self.names.entry((call, born.kind(kernel, name))).or_default() += 1;
+        *self.names.entry((call, born.kind(kernel, *name))).or_default() += 1;
+    }
+
+    fn add_visit(&mut self, history: &History, kernel: &Kernel, call: &Call) {
+        for kind in history.kinds(kernel, call) {
+            *self.mailboxes.entry(kind).or_default() += 1;
+        }
     }
 
     fn add_question(&mut self, kernel: &Kernel, name: u32) {
@@ -149,46 +177,60 @@ impl Coverage {
 
     /// What of all that there is to reach was not reached; empty is good.
     pub fn missing(&self) -> Vec<String> {
-        let codes = (DONE..=COUNT_AT_LIMIT).chain([NO_SUCH_SLICE, CALLER_WAITS]).filter(|code| !self.codes.contains_key(code));
-        let mut missing: Vec<String> = codes.map(|code| format!("code {code}")).collect();
-        let mut want = |reached: bool, what: &str| {
-            if !reached {
-                missing.push(what.to_string());
-            }
-        };
-        want(self.bad_lines > 0, "a bad line");
-        want(self.most_live == PROCESSES - 1, "31 live processes");
-        want(self.most_buffers == BUFFERS, "32 buffers held");
-        want(self.fullest_mailbox == MAILBOX_MESSAGES, "a mailbox with 8 messages");
-        want(self.most_waiters_at_a_mailbox >= 5, "5 waiters at a mailbox");
-        want(self.most_waiters_at_a_semaphore >= 5, "5 waiters at a semaphore");
-        want(self.preempted > 0, "a preempted process in front of others with fewer ticks than a slice");
-        want(self.highest_count == COUNT_LIMIT, "a count of 65,535");
-        for kind in 0..KINDS {
-            want(self.reasons.contains_key(&kind), &format!("a reason of kind {kind}"));
-        }
+        let wanted = [self.of_codes(), self.of_states(), self.of_questions(), self.of_slices(), self.of_names(), self.of_mailboxes()];
+        wanted.into_iter().flatten().filter(|(reached, _)| !reached).map(|(_, what)| what).collect()
+    }
+
+    fn of_codes(&self) -> Vec<Wanted> {
+        let codes = (DONE..=COUNT_AT_LIMIT).chain([NO_SUCH_SLICE, NO_SUCH_SIZE, MAILBOX_BUSY, CALLER_WAITS]);
+        codes.map(|code| (self.codes.contains_key(&code), format!("code {code}"))).collect()
+    }
+
+    fn of_states(&self) -> Vec<Wanted> {
+        let wanted = [
+            (self.bad_lines > 0, "a bad line"),
+            (self.most_live == PROCESSES - 1, "31 live processes"),
+            (self.most_buffers == BUFFERS, "32 buffers held"),
+            (self.fullest_mailbox == LARGEST_CAPACITY, "a mailbox with 32 messages"),
+            (self.most_waiters_at_a_mailbox >= 5, "5 waiters at a mailbox"),
+            (self.most_waiters_at_a_semaphore >= 5, "5 waiters at a semaphore"),
+            (self.preempted > 0, "a preempted process in front of others with fewer ticks than a slice"),
+            (self.highest_count == COUNT_LIMIT, "a count of 65,535"),
+        ];
+        wanted.map(|(reached, what)| (reached, what.to_string())).to_vec()
+    }
+
+    fn of_questions(&self) -> Vec<Wanted> {
+        let mut wanted: Vec<Wanted> = (0..KINDS).map(|kind| (self.reasons.contains_key(&kind), format!("a reason of kind {kind}"))).collect();
         for (kind, (_, most)) in self.reasons.iter().filter(|(kind, _)| (2..=4).contains(*kind)) {
-            want(*most >= 4, &format!("a reason of kind {kind} with 4 ahead"));
+            wanted.push((*most >= 4, format!("a reason of kind {kind} with 4 ahead")));
         }
-        want(self.refused_questions > 0, "a refused question");
-        want(self.reasons_of_0.len() == 2, "a question about 0, while it runs and while another does");
-        for line in FIRST_LINES {
-            want(self.first_lines.contains_key(line), &format!("a script with the first line: {line}"));
-        }
-        for first in BEGINNINGS {
-            want(self.named_later_after.contains(first), &format!("a slice named later, after {first}"));
-        }
-        for slice in [1, 2, 3, USUAL_SLICE, LONGEST_SLICE] {
-            want(self.used_up.contains(&slice), &format!("a slice of {slice} used up"));
-        }
-        for call in NAMING {
-            for kind in IN_SCRIPTS {
-                want(self.names.contains_key(&(call, kind)), &format!("{call} of {}", kind.words()));
-            }
-        }
-        missing
+        wanted.push((self.refused_questions > 0, "a refused question".to_string()));
+        wanted.push((self.reasons_of_0.len() == 2, "a question about 0, while it runs and while another does".to_string()));
+        wanted
+    }
+
+    fn of_slices(&self) -> Vec<Wanted> {
+        let first_lines = FIRST_LINES.map(|line| (self.first_lines.contains_key(line), format!("a script with the first line: {line}")));
+        let later = BEGINNINGS.map(|first| (self.named_later_after.contains(first), format!("a slice named later, after {first}")));
+        let used_up = [1, 2, 3, USUAL_SLICE, LONGEST_SLICE].map(|slice| (self.used_up.contains(&slice), format!("a slice of {slice} used up")));
+        first_lines.into_iter().chain(later).chain(used_up).collect()
+    }
+
+    fn of_names(&self) -> Vec<Wanted> {
+        let wanted = |call: &'static str, kind: Kind| (self.names.contains_key(&(call, kind)), format!("{call} of {}", kind.words()));
+        NAMING.into_iter().flat_map(|call| IN_SCRIPTS.map(|kind| wanted(call, kind))).collect()
+    }
+
+    fn of_mailboxes(&self) -> Vec<Wanted> {
+        let kinds = in_scripts().map(|kind| (self.mailboxes.contains_key(kind), format!("at a mailbox: {kind}")));
+        let lines = NEAR_MAILBOXES.map(|line| (self.near_mailboxes.contains(line), format!("the bad line: {line}")));
+        kinds.chain(lines).collect()
     }
 }
+
+/// Whether something that must come up did, and what it is.
+type Wanted = (bool, String);
 
 /// Whether a process runs that has one tick left.
 fn has_one_tick(kernel: &Kernel) -> bool {
@@ -217,6 +259,8 @@ impl fmt::Display for Coverage {
         let used_up: Vec<String> = self.used_up.iter().map(u32::to_string).collect();
         writeln!(out, "  first lines {}; slices used up {}", first_lines.join(", "), used_up.join(" "))?;
         let names: Vec<String> = self.names.iter().map(|((call, kind), times)| format!("{call} {kind:?}:{times}")).collect();
-        write!(out, "  names {}", names.join(" "))
+        writeln!(out, "  names {}", names.join(" "))?;
+        let mailboxes: Vec<String> = self.mailboxes.iter().map(|(kind, times)| format!("{kind}:{times}")).collect();
+        write!(out, "  at mailboxes {}; {} lines that are nearly settings", mailboxes.join("; "), self.near_mailboxes.len())
     }
 }

@@ -288,6 +288,100 @@ mod tests {
     }
 
     #[test]
+    fn sizes_of_mailboxes() {
+        // One of 1 and one of 3 are full with as many; the others hold 8.
+        answers("mailbox 0 1 0, send 0 aa, send 0 bb", "0 0 0, 0 0 0, 11 0 0");
+        answers("mailbox 15 3 0, send 15 aa, send 15 bb, send 15 cc, send 15 dd", "0 0 0, 0 0 0, 0 0 0, 0 0 0, 11 0 0");
+        check_at_3(&("mailbox 2 1 0\n".to_string() + &"send 1 -\n".repeat(9)), &("0 0 0\n".repeat(9) + "11 0 0\n"));
+        check_at_3(&("mailbox 1 9 0\n".to_string() + &"send 1 -\n".repeat(10)), &("0 0 0\n".repeat(10) + "11 0 0\n"));
+        // One of 32 takes all buffers; then 11 comes before 12.
+        check_at_3(&("mailbox 7 32 0\n".to_string() + &"send 7 -\n".repeat(33) + "send 8 -\n"), &("0 0 0\n".repeat(33) + "11 0 0\n12 0 0\n"));
+        // What is refused is not there, and what is received makes room.
+        answers(
+            "mailbox 4 2 0, create 1, send 4 01, send 4 02, send 4 03, receive 4, send 4 04, read 1, release, receive 4, read 1, release, \
+             receive 4, read 1, release, receive 4",
+            "0 0 0, 0 257 1, 0 0 1, 0 0 1, 11 0 1, 0 1 1, 0 0 1, 0 1 1 01, 0 0 1, 0 1 1, 0 1 1 02, 0 0 1, 0 1 1, 0 1 1 04, 0 0 1, 32 0 0",
+        );
+    }
+
+    #[test]
+    fn mailboxes_that_drop() {
+        // Always the newest; of two, always the newest two, in order.
+        answers(
+            "mailbox 5 1 1, create 1, send 5 01, send 5 02, send 5 03, receive 5, read 1, release, receive 5",
+            "0 0 0, 0 257 1, 0 0 1, 0 0 1, 0 0 1, 0 1 1, 0 1 1 03, 0 0 1, 32 0 0",
+        );
+        answers(
+            "mailbox 5 2 1, create 1, send 5 01, send 5 0202, send 5 030303, send 5 04, receive 5, read 3, release, receive 5, read 3, release, \
+             receive 5",
+            "0 0 0, 0 257 1, 0 0 1, 0 0 1, 0 0 1, 0 0 1, 0 3 1, 0 3 1 030303, 0 0 1, 0 1 1, 0 1 1 04, 0 0 1, 32 0 0",
+        );
+        // A message that is too long pushes nothing out.
+        answers(
+            &format!("mailbox 5 1 1, create 1, send 5 01, send 5 {}, receive 5, read 1", "5a".repeat(513)),
+            "0 0 0, 0 257 1, 0 0 1, 6 0 1, 0 1 1, 0 1 1 01",
+        );
+        // Where someone waits, the message goes into the hand.
+        answers(
+            "mailbox 5 1 1, create 1, receive 5, send 5 01, send 5 02, send 5 03, read 1, release, receive 5, read 1",
+            "0 0 0, 0 257 1, 32 0 0, 0 0 1, 0 0 1, 0 0 1, 0 1 1 01, 0 0 1, 0 1 1, 0 1 1 03",
+        );
+    }
+
+    /// Mailboxes 0 to 3 hold 8 each, of which 3 drops; 4 drops too, and has nothing.
+    #[test]
+    fn drops_with_all_buffers_in_use() {
+        let fill: String = (0..4).map(|mailbox| (1..=8).map(|number| format!("send {mailbox} 0{number}\n")).collect::<String>()).collect();
+        let script = "mailbox 3 8 1\nmailbox 4 8 1\n".to_string() + &fill;
+        let filled = "0 0 0\n".repeat(34);
+        check_at_3(
+            &(script.clone() + "send 0 09\nsend 4 09\nsend 3 09\nsend 3 0a\nsend 4 0b\n"),
+            &(filled.clone() + "11 0 0\n12 0 0\n0 0 0\n0 0 0\n12 0 0\n"),
+        );
+        // One message is in hand: 3 holds 7, and drops nothing for the one that finds no buffer.
+        let emptied: String = (3..=9).map(|number| format!("0 1 1\n0 1 1 0{number}\n0 0 1\n")).collect();
+        check_at_3(
+            &(script + "send 3 09\ncreate 1\nreceive 3\nsend 3 0a\nread 1\nrelease\n" + &"receive 3\nread 1\nrelease\n".repeat(7) + "receive 3\n"),
+            &(filled + "0 0 0\n0 257 1\n0 1 1\n12 0 1\n0 1 1 02\n0 0 1\n" + &emptied + "32 0 0\n"),
+        );
+    }
+
+    #[test]
+    fn refused_sizes() {
+        // 3 before 17, 17 before 18.
+        answers("mailbox 16 8 0, mailbox 16 0 0, mailbox 65535 8 2, mailbox 15 8 0", "3 0 0, 3 0 0, 3 0 0, 0 0 0");
+        answers("mailbox 0 0 0, mailbox 0 33 1, mailbox 0 65535 0, mailbox 0 257 0", "17 0 0, 17 0 0, 17 0 0, 17 0 0");
+        answers("mailbox 0 8 2, mailbox 0 1 65535, mailbox 0 8 256, mailbox 0 0 2", "17 0 0, 17 0 0, 17 0 0, 17 0 0");
+        answers("mailbox 0 1 0, mailbox 0 1 1, mailbox 0 32 0, mailbox 0 32 1", "0 0 0, 0 0 0, 0 0 0, 0 0 0");
+        // With messages, and with waiters, also where nothing would change.
+        answers(
+            "send 3 -, mailbox 3 9 0, mailbox 3 8 0, mailbox 3 8 1, mailbox 3 33 0, mailbox 3 8 2, mailbox 19 8 0, mailbox 4 9 0",
+            "0 0 0, 18 0 0, 18 0 0, 18 0 0, 17 0 0, 17 0 0, 3 0 0, 0 0 0",
+        );
+        answers(
+            "create 1, create 1, receive 3, mailbox 3 8 0, mailbox 3 1 1, mailbox 3 0 0, mailbox 2 1 1, end, mailbox 3 8 0, stop 257, mailbox 3 8 0",
+            "0 257 1, 0 258 1, 32 0 2, 18 0 2, 18 0 2, 17 0 2, 0 0 2, 0 0 0, 18 0 0, 0 0 0, 0 0 0",
+        );
+        // What is refused is not set.
+        answers(
+            "mailbox 1 2 0, mailbox 1 0 1, mailbox 1 1 2, send 1 -, mailbox 1 1 1, send 1 -, send 1 -",
+            "0 0 0, 17 0 0, 17 0 0, 0 0 0, 18 0 0, 0 0 0, 11 0 0",
+        );
+    }
+
+    #[test]
+    fn sizes_last() {
+        // Emptied and filled again, it still holds 1 and drops; set again, it refuses.
+        answers(
+            "mailbox 6 1 1, create 1, send 6 01, send 6 02, receive 6, release, send 6 03, send 6 04, receive 6, read 1, release, \
+             mailbox 6 1 0, send 6 05, send 6 06, end, send 6 07",
+            "0 0 0, 0 257 1, 0 0 1, 0 0 1, 0 1 1, 0 0 1, 0 0 1, 0 0 1, 0 1 1, 0 1 1 04, 0 0 1, 0 0 1, 0 0 1, 11 0 1, 0 0 0, 11 0 0",
+        );
+        // A later line that names a slice is bad and starts nothing.
+        check("mailbox 6 1 1\nslice 2\nsend 6 -\nsend 6 -\nmailbox 6 1 1\n", "0 0 0\nbad\n0 0 0\n0 0 0\n18 0 0\n");
+    }
+
+    #[test]
     fn questions() {
         answers("why 0, why 1, why 31, why 32, why 65535", "0 0 0 running, 0 0 0 unused, 0 0 0 unused, 1 0 0, 1 0 0");
         answers(

@@ -28,6 +28,7 @@ pub fn parse(line: &[u8]) -> Option<Call> {
         [b"signal", semaphore] => Call::Signal(number(semaphore)?),
         [b"wait", semaphore] => Call::Wait(number(semaphore)?),
         [b"why", name] => Call::Why(number(name)?),
+        [b"mailbox", mailbox, capacity, mode] => Call::Mailbox(number(mailbox)?, number(capacity)?, number(mode)?),
         _ => return None,
     })
 }
@@ -90,6 +91,7 @@ pub fn line_of(call: &Call) -> String {
         Call::Signal(semaphore) => format!("signal {semaphore}"),
         Call::Wait(semaphore) => format!("wait {semaphore}"),
         Call::Why(name) => format!("why {name}"),
+        Call::Mailbox(mailbox, capacity, mode) => format!("mailbox {mailbox} {capacity} {mode}"),
     }
 }
 
@@ -188,6 +190,33 @@ mod tests {
         }
         for line in ["", "3", "slice 65536", "slice 4294967299", "slice 3a", "slice 0x3", "slice +3", "Slice 3", "slices 3", "slice3", "tick"] {
             assert_eq!(named_slice(line.as_bytes()), None, "{line}");
+        }
+    }
+
+    #[test]
+    fn the_word_mailbox() {
+        for (line, call) in [
+            ("mailbox 0 1 0", Call::Mailbox(0, 1, 0)),
+            ("mailbox 15 32 1", Call::Mailbox(15, 32, 1)),
+            ("mailbox 16 0 2", Call::Mailbox(16, 0, 2)),
+            ("mailbox 65535 65535 65535", Call::Mailbox(65_535, 65_535, 65_535)),
+        ] {
+            assert_eq!(parse(line.as_bytes()), Some(call.clone()));
+            assert_eq!(line_of(&call), line);
+        }
+        for line in ["mailbox", "mailbox ", "mailbox 0", "mailbox 0 8", "mailbox 0 8 ", "mailbox 0 8 0 ", "mailbox 0 8 0 0", "mailbox 0 8 0 -"] {
+            bad(line.as_bytes());
+        }
+        for line in [" mailbox 0 8 0", "mailbox  0 8 0", "mailbox 0  8 0", "mailbox 0 8  0", "mailbox\t0 8 0", "mailbox 0 8\t0", "mailbox 0 8 0\r"] {
+            bad(line.as_bytes());
+        }
+        for number in ["00", "01", "65536", "4294967297", "-", "-1", "+1", "1a", "0x1", ""] {
+            bad(format!("mailbox {number} 8 0").as_bytes());
+            bad(format!("mailbox 0 {number} 0").as_bytes());
+            bad(format!("mailbox 0 8 {number}").as_bytes());
+        }
+        for line in ["Mailbox 0 8 0", "MAILBOX 0 8 0", "mailboxes 0 8 0", "mailbo 0 8 0", "mailbox0 8 0", "mailbox 0,8,0", "mailbox 0 8 drop"] {
+            bad(line.as_bytes());
         }
     }
 

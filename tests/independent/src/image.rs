@@ -4,7 +4,7 @@ use crate::kernel::*;
 use crate::sound::is_sound;
 use std::collections::VecDeque;
 
-pub const IMAGE_BYTES: usize = 476;
+pub const IMAGE_BYTES: usize = 508;
 
 // Where each field begins.
 const RUNNING: usize = 0;
@@ -23,6 +23,8 @@ const FREE_BITS: usize = 407;
 const COUNT: usize = 411;
 pub const BIRTH_COUNT: usize = 443;
 pub const SLICE: usize = 475;
+pub const CAPACITY: usize = 476;
+pub const MODE: usize = 492;
 
 /// What the byte at this place belongs to.
 pub fn field_of(place: usize) -> &'static str {
@@ -40,6 +42,8 @@ pub fn field_of(place: usize) -> &'static str {
         (COUNT, "count"),
         (BIRTH_COUNT, "births"),
         (SLICE, "slice"),
+        (CAPACITY, "capacity"),
+        (MODE, "mode"),
     ];
     fields.iter().rfind(|(start, _)| *start <= place).map_or("", |(_, name)| name)
 }
@@ -81,7 +85,7 @@ pub fn image(kernel: &Kernel) -> [u8; IMAGE_BYTES] {
         write_two(&mut area, COUNT + 2 * number, semaphore.count as usize);
     }
     area[BIRTH_COUNT..SLICE].copy_from_slice(&kernel.births);
-    area[SLICE] = kernel.slice as u8;
+    write_settings(&mut area, kernel);
     area
 }
 
@@ -129,6 +133,14 @@ fn write_rings(area: &mut [u8; IMAGE_BYTES], next: usize, before: usize, queues:
     }
 }
 
+fn write_settings(area: &mut [u8; IMAGE_BYTES], kernel: &Kernel) {
+    area[SLICE] = kernel.slice as u8;
+    for (number, mailbox) in kernel.mailboxes.iter().enumerate() {
+        area[CAPACITY + number] = mailbox.capacity as u8;
+        area[MODE + number] = mailbox.mode as u8;
+    }
+}
+
 fn write_bits(area: &mut [u8; IMAGE_BYTES], field: usize, is_on: impl Fn(usize) -> bool) {
     for bit in (0..32).filter(|&bit| is_on(bit)) {
         area[field + bit / 8] |= 1 << (bit % 8);
@@ -162,6 +174,8 @@ fn read(area: &[u8; IMAGE_BYTES]) -> Option<Kernel> {
         let buffers = ring(area, MESSAGE_NEXT, number)?;
         kernel.mailboxes[number].messages = buffers.into_iter().map(message).collect::<Option<_>>()?;
         kernel.mailboxes[number].waiters = ring(area, PROCESS_NEXT, CLASSES + number)?;
+        kernel.mailboxes[number].capacity = usize::from(area[CAPACITY + number]);
+        kernel.mailboxes[number].mode = u32::from(area[MODE + number]);
     }
     for number in 0..SEMAPHORES {
         kernel.semaphores[number].count = two(COUNT + 2 * number) as u32;

@@ -21,19 +21,28 @@ const NEAR_QUESTIONS: [&str; 20] = [
     "why 4294967297", "why 1a", "Why 1", "WHY 1", "wh 1", "whys 1", "why1",
 ];
 
+/// Settings of mailboxes that are none.
+pub const NEAR_MAILBOXES: [&str; 32] = [
+    "mailbox", "mailbox ", "mailbox 5", "mailbox 5 3", "mailbox 5 3 ", "mailbox 5 3 1 ", "mailbox 5 3 1 0", "mailbox 5 3 1 1",
+    "mailbox  5 3 1", "mailbox 5  3 1", "mailbox 5 3  1", " mailbox 5 3 1", "mailbox\t5 3 1", "mailbox 5\t3 1", "mailbox 5 3 1\r",
+    "mailbox 05 3 1", "mailbox 5 03 1", "mailbox 5 3 01", "mailbox 5 3 00", "mailbox 65541 3 1", "mailbox 5 65539 1", "mailbox 5 3 65537",
+    "mailbox 5 -3 1", "mailbox 5 +3 1", "mailbox 5 3 -", "mailbox 5 3 drop", "mailbox - - -", "Mailbox 5 3 1", "MAILBOX 5 3 1",
+    "mailboxes 5 3 1", "mailbox5 3 1", "mail 5 3 1",
+];
+
 /// They wrap to a small number in 8, 16, 32 or 64 bits, or are written in another way than document 01 has them.
 const NEAR_NUMBERS: [&str; 24] = [
     "00", "01", "007", "0000", "65536", "65537", "65538", "99999", "100000", "131073", "655350", "4294967296", "4294967297",
     "18446744073709551616", "18446744073709551617", "-1", "-0", "+1", "1.0", "1e1", "0x1", "1a", "a", "١",
 ];
 
-const NUMBER_WORDS: [&str; 8] = ["create", "stop", "class", "receive", "read", "signal", "wait", "send"];
+const NUMBER_WORDS: [&str; 9] = ["create", "stop", "class", "receive", "read", "signal", "wait", "send", "mailbox"];
 
 const NEAR_BYTES: [&str; 14] = ["4", "414", "4G", "g4", "AB", "aB", "--", "-41", "41-", "0x41", "4 1", "41 ", "4:", "4`"];
 
 /// A line without newline that a desk should call bad, or a call with some bytes changed.
 pub fn junk_line(random: &mut Random, call: &str) -> Vec<u8> {
-    let mut line = match random.below(9) {
+    let mut line = match random.below(10) {
         0 => {
             let length = random.below(40);
             random.bytes(length)
@@ -43,6 +52,7 @@ pub fn junk_line(random: &mut Random, call: &str) -> Vec<u8> {
         3 => bad_bytes(random).into_bytes(),
         4 => spaced(random, call).into_bytes(),
         5 if random.one_in(4) => long_line(random, call),
+        6 => random.pick(&NEAR_MAILBOXES).unwrap_or("mailbox").as_bytes().to_vec(),
         _ => damaged(random, call.as_bytes()),
     };
     line.iter_mut().filter(|byte| **byte == b'\n').for_each(|byte| *byte = b'\r');
@@ -67,6 +77,11 @@ fn bad_number(random: &mut Random) -> String {
     let number = random.pick(&NEAR_NUMBERS).unwrap_or("00");
     match word {
         "send" => format!("send {number} 41"),
+        "mailbox" => match random.below(3) {
+            0 => format!("mailbox {number} 3 1"),
+            1 => format!("mailbox 5 {number} 1"),
+            _ => format!("mailbox 5 3 {number}"),
+        },
         "read" if random.one_in(4) => format!("read {}", random.between(514, 65_535)),
         "read" if random.one_in(2) => "read 513".to_string(),
         _ => format!("{word} {number}"),
@@ -163,6 +178,11 @@ mod tests {
     #[test]
     fn slices_that_are_none() {
         assert!(NEAR_SLICES.iter().all(|line| named_slice(line.as_bytes()).is_none() && parse(line.as_bytes()).is_none()));
+    }
+
+    #[test]
+    fn settings_that_are_none() {
+        assert!(NEAR_MAILBOXES.iter().all(|line| parse(line.as_bytes()).is_none()));
     }
 
     #[test]

@@ -1,4 +1,5 @@
-//! The kernel of document 01 as places and lists in order, its slice a setting and its processes named as in document 02.
+//! The kernel of document 01 as places and lists in order, its slice and the sizes of its mailboxes settings and its processes
+//! named as in document 02.
 //! Written to be obvious, not fast.
 //!
 //! A kernel here is always sound: it starts fresh and only its calls change it, or it comes from `image::decide`.
@@ -11,8 +12,12 @@ use std::collections::VecDeque;
 pub const PROCESSES: usize = 32;
 pub const CLASSES: usize = 5;
 pub const MAILBOXES: usize = 16;
-/// How many messages may be queued in one mailbox.
-pub const MAILBOX_MESSAGES: usize = 8;
+/// How many messages may be queued in a mailbox where nothing else is set.
+pub const USUAL_CAPACITY: usize = 8;
+pub const LARGEST_CAPACITY: usize = 32;
+/// What a full mailbox does with another message: it is refused, or pushes out the oldest.
+pub const REFUSES: u32 = 0;
+pub const DROPS: u32 = 1;
 pub const BUFFERS: usize = 32;
 pub const BUFFER_BYTES: usize = 512;
 pub const STORE_BYTES: usize = BUFFERS * BUFFER_BYTES;
@@ -39,10 +44,28 @@ pub struct Process {
 }
 
 /// First in the queue is first in the list, here and everywhere.
-#[derive(Clone, Debug, Default, PartialEq, Eq)]
+#[derive(Clone, Debug, PartialEq, Eq)]
 pub struct Mailbox {
     pub messages: VecDeque<Message>,
     pub waiters: VecDeque<usize>,
+    pub capacity: usize,
+    pub mode: u32,
+}
+
+impl Default for Mailbox {
+    fn default() -> Mailbox {
+        Mailbox { messages: VecDeque::new(), waiters: VecDeque::new(), capacity: USUAL_CAPACITY, mode: REFUSES }
+    }
+}
+
+impl Mailbox {
+    pub fn is_full(&self) -> bool {
+        self.messages.len() == self.capacity
+    }
+
+    pub fn is_busy(&self) -> bool {
+        !self.messages.is_empty() || !self.waiters.is_empty()
+    }
 }
 
 #[derive(Clone, Debug, Default, PartialEq, Eq)]
@@ -158,8 +181,12 @@ impl Kernel {
         if bytes.len() > BUFFER_BYTES {
             return self.answer(MESSAGE_TOO_LONG, 0);
         }
-        if self.mailboxes[mailbox as usize].messages.len() == MAILBOX_MESSAGES {
+        let is_full = self.mailboxes[mailbox as usize].is_full();
+        if is_full && self.mailboxes[mailbox as usize].mode == REFUSES {
             return self.answer(MAILBOX_FULL, 0);
+        }
+        if is_full {
+            self.mailboxes[mailbox as usize].messages.pop_front();
         }
         let Some(buffer) = self.lowest_free_buffer() else {
             return self.answer(NO_FREE_BUFFER, 0);
@@ -259,6 +286,22 @@ impl Kernel {
         self.answer(CALLER_WAITS, 0)
     }
 
+    /// Sets the size and the habit of a mailbox that nobody uses.
+    pub fn mailbox(&mut self, mailbox: u32, capacity: u32, mode: u32) -> Answer {
+        if mailbox as usize >= MAILBOXES {
+            return self.answer(NO_SUCH_MAILBOX, 0);
+        }
+        if !(1..=LARGEST_CAPACITY).contains(&(capacity as usize)) || ![REFUSES, DROPS].contains(&mode) {
+            return self.answer(NO_SUCH_SIZE, 0);
+        }
+        if self.mailboxes[mailbox as usize].is_busy() {
+            return self.answer(MAILBOX_BUSY, 0);
+        }
+        self.mailboxes[mailbox as usize].capacity = capacity as usize;
+        self.mailboxes[mailbox as usize].mode = mode;
+        self.answer(DONE, 0)
+    }
+
     // Who runs.
 
     /// The first of the highest class with anyone ready runs, else 0.
@@ -338,6 +381,14 @@ impl Kernel {
 
     pub fn lowest_free_buffer(&self) -> Option<usize> {
         (0..BUFFERS).find(|&buffer| self.held().all(|message| message.buffer != buffer))
+    }
+
+    /// The buffer that a message to this mailbox takes, if there is one: the lowest free one, that of the message dropped for it
+    /// among them.
+    pub fn buffer_for(&self, mailbox: u32) -> Option<usize> {
+        let mailbox = self.mailboxes.get(mailbox as usize)?;
+        let dropped = mailbox.messages.front().filter(|_| mailbox.is_full() && mailbox.mode == DROPS);
+        self.lowest_free_buffer().into_iter().chain(dropped.map(|message| message.buffer)).min()
     }
 
     /// Every message there is, in hands and in mailboxes.

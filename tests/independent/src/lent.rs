@@ -82,7 +82,7 @@ mod tests {
             while let Some(line) = script.next_line() {
                 let Some(asked) = parse(&line) else { continue };
                 let before = store.clone();
-                let buffer = kernel.lowest_free_buffer();
+                let buffer = if let Call::Send(mailbox, _) = &asked { kernel.buffer_for(*mailbox) } else { None };
                 let expected = kernel.apply(&asked);
                 assert_eq!(call(&mut area, &mut store, &asked), expected, "seed {seed}, {asked:?}");
                 assert_eq!(area[..], image(&kernel));
@@ -99,7 +99,7 @@ mod tests {
     #[test]
     fn states_refused() {
         let mut store = vec![7; STORE_BYTES];
-        for length in [0, 1, 444, 474, 475, 477] {
+        for length in [0, 1, 444, 475, 476, 477, 492, 507, 509] {
             let mut area = vec![5; length];
             assert_eq!(fresh(&mut area), STATE_REFUSED);
             // 14 comes before 16.
@@ -138,6 +138,7 @@ mod tests {
                 assert_eq!(fresh_slice(&mut area, slice), FRESH_WRITTEN);
                 assert_eq!(area[..475], usual[..475]);
                 assert_eq!(u32::from(area[475]), slice);
+                assert_eq!(area[476..], usual[476..]);
             }
         }
     }
@@ -149,7 +150,7 @@ mod tests {
         // 14 comes before 1, and by itself.
         assert_eq!(call(&mut area, &mut [], &Call::Why(32)), refused(NOT_SOUND));
         assert_eq!(call(&mut area, &mut [], &Call::Why(31)), refused(NOT_SOUND));
-        assert_eq!(call(&mut area[..475], &mut [], &Call::Why(32)), refused(NOT_SOUND));
+        assert_eq!(call(&mut area[..507], &mut [], &Call::Why(32)), refused(NOT_SOUND));
         fresh(&mut area);
         assert_eq!(call(&mut area, &mut [], &Call::Why(32)), refused(NO_SUCH_PROCESS));
         call(&mut area, &mut [], &Call::Create(2));
@@ -186,6 +187,65 @@ mod tests {
         assert_eq!(listing(&area, &mut [Row::default(); 32]), STATE_REFUSED);
         fresh(&mut area);
         assert_eq!(area[443..475], [0; 32]);
+    }
+
+    #[test]
+    fn mailboxes() {
+        let mut area = vec![0; IMAGE_BYTES];
+        let answer = |code: u32| (Answer { code, number: 0, running: 0 }, None);
+        // 14 comes before 3 and 17.
+        assert_eq!(call(&mut area, &mut [], &Call::Mailbox(16, 33, 2)), (STATE_REFUSED, None));
+        fresh(&mut area);
+        let usual = area.clone();
+        assert_eq!(usual[476..], [[8; 16], [0; 16]].concat());
+        // Numbers that another width would take for right ones.
+        for over in [256, 65_536, 0x8000_0000, 0xffff_ff00] {
+            assert_eq!(call(&mut area, &mut [], &Call::Mailbox(over + 5, 3, 1)), answer(NO_SUCH_MAILBOX));
+            assert_eq!(call(&mut area, &mut [], &Call::Mailbox(5, over + 3, 1)), answer(NO_SUCH_SIZE));
+            assert_eq!(call(&mut area, &mut [], &Call::Mailbox(5, 3, over + 1)), answer(NO_SUCH_SIZE));
+        }
+        assert_eq!(call(&mut area, &mut [], &Call::Mailbox(u32::MAX, 3, 1)), answer(NO_SUCH_MAILBOX));
+        assert_eq!(call(&mut area, &mut [], &Call::Mailbox(5, u32::MAX, 1)), answer(NO_SUCH_SIZE));
+        assert_eq!(call(&mut area, &mut [], &Call::Mailbox(5, 3, u32::MAX)), answer(NO_SUCH_SIZE));
+        assert_eq!(area, usual);
+        assert_eq!(call(&mut area, &mut [], &Call::Mailbox(5, 3, 1)), answer(DONE));
+        let mut expected = usual.clone();
+        (expected[476 + 5], expected[492 + 5]) = (3, 1);
+        assert_eq!(area, expected);
+        // Both fresh starts put it back.
+        fresh_slice(&mut area, 5);
+        assert_eq!(area, usual);
+        fresh(&mut expected);
+        assert_eq!(expected, usual);
+    }
+
+    /// Buffer 0 is free, 1 and 2 are in mailbox 5, which holds 2 and drops.
+    #[test]
+    fn what_a_drop_writes() {
+        let mut area = vec![0; IMAGE_BYTES];
+        fresh(&mut area);
+        let mut store = vec![7; STORE_BYTES];
+        let mut done = |area: &mut [u8], asked: Call| {
+            let before = store.clone();
+            assert_eq!(call(area, &mut store, &asked).0.code, DONE);
+            (0..STORE_BYTES).filter(|&place| store[place] != before[place]).collect::<Vec<usize>>()
+        };
+        done(&mut area, Call::Mailbox(5, 2, 1));
+        done(&mut area, Call::Create(1));
+        for mailbox in [0, 5, 5] {
+            done(&mut area, Call::Send(mailbox, vec![1; 3]));
+        }
+        done(&mut area, Call::Receive(0));
+        done(&mut area, Call::Release);
+        // The oldest is dropped, and the new one lies in buffer 0, which is lower; the next one in the buffer that was freed then.
+        assert_eq!(done(&mut area, Call::Send(5, vec![2; 4])), [0, 1, 2, 3]);
+        assert_eq!(area[407], 0b1111_1010);
+        assert_eq!([area[211 + 32 + 5], area[211 + 2], area[211]], [2, 0, 37]);
+        assert_eq!(area[343..349], [4, 0, 0, 0, 3, 0]);
+        assert_eq!(done(&mut area, Call::Send(5, vec![3; 2])), [512, 513]);
+        assert_eq!(area[407], 0b1111_1100);
+        assert_eq!([area[211 + 32 + 5], area[211], area[211 + 1]], [0, 1, 37]);
+        assert_eq!(area[343..349], [4, 0, 2, 0, 0, 0]);
     }
 
     #[test]

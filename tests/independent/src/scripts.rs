@@ -3,15 +3,17 @@
 //! Calls drawn blindly rarely fill a mailbox or gather waiters. So the kernel runs alongside, and each line is drawn
 //! from wishes that look at its state, such as "receive where there is a message". The seed chooses the style: its
 //! phases, each a list of wishes with weights, take turns. It also chooses how the script begins, where a slice is named, and
-//! in some a number is born so often that its names return.
+//! in some a number is born so often that its names return, or mailboxes of many sizes are filled and emptied.
 
 use crate::call::Call;
 use crate::desk::Desk;
-use crate::grammar::{line_of, LINE_BYTES};
+use crate::grammar::{line_of, parse, LINE_BYTES};
 use crate::junk::{giant_line, junk_line, junk_question, near_slice};
 use crate::kernel::*;
+use crate::mailboxes::History;
 use crate::names::Born;
 use crate::random::Random;
+use crate::sizes::{capacity, mode};
 use std::io::{self, Write};
 
 /// What a line should ask for, if the state allows; if it doesn't, any call is taken.
@@ -34,11 +36,14 @@ enum Wish {
     SendSmall,
     SendWithRoom,
     SendToFull,
+    SendToFullest,
+    SendToDropping,
     SendToWaiter,
     ReceiveAny,
     ReceiveFilled,
     ReceiveEmpty,
     ReceiveWaited,
+    ReceiveSpared,
     ReadAny,
     ReadNear,
     ReadZero,
@@ -51,6 +56,9 @@ enum Wish {
     WaitZero,
     WaitWaited,
     WaitFavourite,
+    SetAny,
+    SetIdle,
+    SetBack,
     OutOfRange,
 }
 use Wish::*;
@@ -71,7 +79,7 @@ const STYLES: [Style; 8] = [
         phases: &[&[
             (10, Create), (3, StopLive), (3, StopAnyName), (2, End), (5, Yield), (5, ClassAny), (15, Tick), (12, SendAny), (6, ReceiveAny),
             (8, ReceiveFilled), (5, ReadAny), (5, ReadNear), (6, Release), (6, SignalAny), (5, SignalWaited), (5, WaitAny),
-            (3, WaitCounted), (2, OutOfRange),
+            (3, WaitCounted), (4, SetAny), (2, SendToDropping), (2, ReceiveSpared), (2, OutOfRange),
         ]],
     },
     Style {
@@ -81,7 +89,7 @@ const STYLES: [Style; 8] = [
             &[(50, Create), (5, CreateAbove), (10, Tick), (5, Yield), (5, ClassAny), (3, WaitAny), (3, ReceiveAny), (1, StopLive), (1, OutOfRange)],
             &[
                 (20, Create), (6, StopLive), (2, StopWaiter), (2, StopReady), (2, StopAnyName), (1, End), (10, Tick), (5, Yield), (3, ClassAny),
-                (6, WaitAny), (6, ReceiveAny), (8, SignalWaited), (8, SendToWaiter), (3, SendAny), (3, Release), (2, OutOfRange),
+                (6, WaitAny), (6, ReceiveAny), (8, SignalWaited), (8, SendToWaiter), (3, SendAny), (3, Release), (2, SetAny), (2, OutOfRange),
             ],
         ],
     },
@@ -89,12 +97,19 @@ const STYLES: [Style; 8] = [
         name: "mail",
         junk: 300,
         phases: &[
-            &[(30, SendWithRoom), (5, SendToFull), (3, SendAny), (3, Create), (4, Tick), (1, Yield), (1, OutOfRange)],
             &[
-                (15, ReceiveFilled), (15, SendWithRoom), (3, SendToFull), (8, Yield), (6, Create), (2, Tick), (3, ReadNear), (2, ReceiveAny),
-                (2, WaitZero), (2, SignalWaited), (3, Release),
+                (20, SendWithRoom), (12, SendToFullest), (5, SendToFull), (5, SendToDropping), (3, SendAny), (3, SetIdle), (2, SetAny),
+                (3, Create), (4, Tick), (1, Yield), (1, OutOfRange),
             ],
-            &[(15, ReceiveFilled), (18, Release), (4, ReadAny), (4, Yield), (2, StopHolder), (2, Create), (3, SendAny), (1, End), (2, ReceiveEmpty)],
+            &[
+                (15, ReceiveFilled), (10, SendWithRoom), (8, SendToFullest), (3, SendToFull), (6, SendToDropping), (3, SetIdle), (2, SetAny),
+                (8, Yield), (6, Create), (2, Tick), (4, ReceiveSpared), (3, ReadNear), (2, ReceiveAny), (2, WaitZero), (2, SignalWaited),
+                (3, Release),
+            ],
+            &[
+                (12, ReceiveFilled), (6, ReceiveSpared), (18, Release), (4, ReadAny), (4, Yield), (2, StopHolder), (2, Create), (3, SendAny),
+                (3, SendToDropping), (3, SetBack), (3, SetAny), (1, End), (2, ReceiveEmpty),
+            ],
         ],
     },
     Style {
@@ -103,12 +118,15 @@ const STYLES: [Style; 8] = [
         phases: &[
             &[
                 (12, Create), (6, ReceiveEmpty), (12, ReceiveWaited), (6, WaitZero), (12, WaitWaited), (3, Release), (3, ReceiveFilled),
-                (4, Tick), (2, CreateUpTo),
+                (4, Tick), (2, CreateUpTo), (3, SetAny), (2, SetIdle), (2, SendToFullest), (2, SendToDropping),
             ],
-            &[(12, SendToWaiter), (12, SignalWaited), (4, Tick), (3, Release), (3, ReadNear), (2, Yield), (2, Create)],
+            &[
+                (12, SendToWaiter), (12, SignalWaited), (4, Tick), (3, Release), (3, ReadNear), (2, Yield), (2, Create), (3, SendToFullest),
+                (3, SendToDropping),
+            ],
             &[
                 (10, StopWaiter), (2, StopAnyName), (8, SendToWaiter), (8, SignalWaited), (6, ReceiveWaited), (6, WaitWaited), (6, Create),
-                (4, Tick), (3, Release), (2, ClassAny), (2, SendAny), (2, SignalAny), (1, OutOfRange),
+                (4, Tick), (3, Release), (2, ClassAny), (2, SendAny), (2, SignalAny), (3, SetAny), (1, OutOfRange),
             ],
         ],
     },
@@ -141,7 +159,8 @@ const STYLES: [Style; 8] = [
         phases: &[
             &[
                 (8, SendAny), (8, SendWithRoom), (10, ReceiveFilled), (15, ReadNear), (6, ReadAny), (4, ReadZero), (8, Release), (4, Create),
-                (3, Yield), (3, Tick), (1, ReceiveEmpty), (2, SendToWaiter), (1, StopHolder), (1, OutOfRange),
+                (3, Yield), (3, Tick), (1, ReceiveEmpty), (2, SendToWaiter), (1, StopHolder), (3, SetIdle), (5, SendToDropping),
+                (5, ReceiveSpared), (1, OutOfRange),
             ],
             &[
                 (6, ReceiveWaited), (8, SendToWaiter), (12, ReadNear), (4, ReadZero), (3, ReadAny), (6, Release), (5, Create), (2, Yield),
@@ -154,7 +173,7 @@ const STYLES: [Style; 8] = [
         junk: 2,
         phases: &[&[
             (8, Create), (2, StopLive), (1, StopAnyName), (1, End), (3, Yield), (3, ClassAny), (8, Tick), (8, SendSmall), (6, ReceiveFilled),
-            (2, ReceiveAny), (5, ReadNear), (4, Release), (4, SignalAny), (3, SignalWaited), (3, WaitAny), (2, OutOfRange),
+            (2, ReceiveAny), (5, ReadNear), (4, Release), (4, SignalAny), (3, SignalWaited), (3, WaitAny), (4, SetAny), (2, OutOfRange),
         ]],
     },
 ];
@@ -168,6 +187,11 @@ const REBORN: u64 = 2;
 /// It is born so often, and of these the last ones are looked at closely.
 const REBIRTHS: u32 = BIRTHS + 2;
 const LAST_REBIRTHS: u32 = 4;
+
+/// One in so many scripts of the mail style begins with mailboxes that are filled and emptied, on top of its lines.
+const FILLED: u64 = 2;
+/// So many messages more than a mailbox holds are sent to it then.
+const TOO_MANY: u32 = 3;
 
 /// How many ways to begin there are. The seed chooses one: among 16 seeds in a row, from a multiple of 8 on, each comes
 /// once, and a style meets all of them in 16 turns.
@@ -206,7 +230,7 @@ fn style_and_turn(seed: u64) -> (&'static Style, u64) {
 
 /// The beginning of a seed's script, and two processes that take turns until one has used up the slice that holds then:
 /// drawn lines do that rarely, or never where it is long. Nothing of that where no line stands at the beginning.
-/// Then, in some, the births of a number.
+/// Then, in some, the births of a number or full mailboxes.
 fn opening(seed: u64) -> Vec<Vec<u8>> {
     let mut lines = beginning(seed);
     let mut desk = Desk::fresh();
@@ -222,6 +246,9 @@ fn opening(seed: u64) -> Vec<Vec<u8>> {
     if style.name == "preemption" && turn % REBORN == 0 {
         let in_use = if lines.is_empty() { 0 } else { 2 };
         lines.extend(births(in_use + 1).iter().map(|call| line_of(call).into_bytes()));
+    }
+    if style.name == "mail" && turn % FILLED == 0 {
+        lines.extend(fillings(turn / FILLED).iter().map(|call| line_of(call).into_bytes()));
     }
     lines
 }
@@ -250,6 +277,23 @@ fn births(number: u32) -> Vec<Call> {
     calls
 }
 
+/// A process fills a mailbox of 32, one of 8, and one of 9 to 31, each first refusing and then dropping, sends more, reads all
+/// that is there and sets it back to 8, refusing. In between it tries to set it while there are messages.
+fn fillings(round: u64) -> Vec<Call> {
+    let mut calls = vec![Call::Create(4)];
+    for (mailbox, capacity) in [(15, 32), (7, 8), (0, 9 + (round % 23) as u32)] {
+        for mode in [REFUSES, DROPS] {
+            calls.push(Call::Mailbox(mailbox, capacity, mode));
+            calls.extend((0..capacity + TOO_MANY).map(|number| Call::Send(mailbox, vec![number as u8; 1 + number as usize % 3])));
+            calls.push(Call::Mailbox(mailbox, capacity, mode));
+            calls.extend((0..capacity).flat_map(|_| [Call::Receive(mailbox), Call::Read(512), Call::Release]));
+            calls.push(Call::Mailbox(mailbox, USUAL_CAPACITY as u32, REFUSES));
+        }
+    }
+    calls.push(Call::End);
+    calls
+}
+
 fn other_first_line(number: u64) -> Vec<u8> {
     match number % 4 {
         0 => b"tick".to_vec(),
@@ -265,6 +309,7 @@ pub struct Script {
     random: Random,
     desk: Desk,
     born: Born,
+    history: History,
     opening: std::vec::IntoIter<Vec<u8>>,
     style: &'static Style,
     phase: Phase,
@@ -290,6 +335,7 @@ impl Script {
             random,
             desk: Desk::fresh(),
             born: Born::default(),
+            history: History::default(),
             opening: opening(seed).into_iter(),
             style,
             phase: style.phases[0],
@@ -320,6 +366,9 @@ impl Script {
             Some(line) => line,
             None => self.line_after_the_opening()?,
         };
+        if let Some(call) = parse(&line) {
+            self.history.follow(self.desk.kernel(), &call);
+        }
         self.desk.answer(&line);
         self.born.follow(self.desk.kernel());
         Some(line)
@@ -382,15 +431,21 @@ impl Script {
             }
             SendSmall => Call::Send(random.below(MAILBOXES) as u32, short_message(random)),
             SendWithRoom => {
-                let open = mailboxes(kernel, |mailbox| mailbox.messages.len() < MAILBOX_MESSAGES && mailbox.waiters.is_empty());
+                let open = mailboxes(kernel, |mailbox| !mailbox.is_full() && mailbox.waiters.is_empty());
                 Call::Send(random.pick(&open)?, message(random))
             }
             SendToFull => {
-                let full = mailboxes(kernel, |mailbox| mailbox.messages.len() == MAILBOX_MESSAGES);
-                let fullest = mailboxes(kernel, |mailbox| mailbox.messages.len() >= MAILBOX_MESSAGES / 2);
-                let chosen = if random.one_in(2) { random.pick(&full) } else { random.pick(&fullest) };
+                let full = mailboxes(kernel, Mailbox::is_full);
+                let half_full = mailboxes(kernel, |mailbox| 2 * mailbox.messages.len() >= mailbox.capacity);
+                let chosen = if random.one_in(2) { random.pick(&full) } else { random.pick(&half_full) };
                 Call::Send(chosen.unwrap_or(0), short_message(random))
             }
+            SendToFullest => {
+                let open = mailboxes(kernel, |mailbox| !mailbox.is_full() && mailbox.waiters.is_empty());
+                let room = |number: &u32| kernel.mailboxes[*number as usize].capacity - kernel.mailboxes[*number as usize].messages.len();
+                Call::Send(open.into_iter().min_by_key(room)?, short_message(random))
+            }
+            SendToDropping => Call::Send(random.pick(&mailboxes(kernel, |mailbox| mailbox.is_full() && mailbox.mode == DROPS))?, message(random)),
             SendToWaiter => Call::Send(random.pick(&mailboxes(kernel, |mailbox| !mailbox.waiters.is_empty()))?, message(random)),
             ReceiveAny => Call::Receive(random.below(MAILBOXES) as u32),
             ReceiveFilled => Call::Receive(random.pick(&mailboxes(kernel, |mailbox| !mailbox.messages.is_empty()))?),
@@ -399,6 +454,7 @@ impl Script {
                 let least = waiters_wanted(random, kernel.mailboxes.iter().map(|mailbox| mailbox.waiters.len()));
                 Call::Receive(random.pick(&mailboxes(kernel, |mailbox| mailbox.waiters.len() >= least))?)
             }
+            ReceiveSpared => Call::Receive(random.pick(&self.history.that_dropped())?),
             ReadAny => Call::Read(random.between(0, 512) as u32),
             ReadNear => Call::Read((hand_length? + random.below(3)).saturating_sub(1).min(512) as u32),
             ReadZero => Call::Read(0),
@@ -414,6 +470,9 @@ impl Script {
                 Call::Wait(random.pick(&semaphores(kernel, |semaphore| semaphore.waiters.len() >= least))?)
             }
             WaitFavourite => Call::Wait(self.favourite),
+            SetAny => self.history.draw(kernel, random),
+            SetIdle => Call::Mailbox(random.pick(&mailboxes(kernel, |mailbox| !mailbox.is_busy()))?, capacity(random), mode(random)),
+            SetBack => self.history.draw_back(kernel, random)?,
             OutOfRange => out_of_range(random, kernel),
         })
     }
@@ -421,7 +480,7 @@ impl Script {
     /// Any call, as far as its arguments are in range.
     fn any_call(&mut self) -> Call {
         let random = &mut self.random;
-        match random.below(12) {
+        match random.below(13) {
             0 | 1 => Call::Create(random.below(CLASSES) as u32),
             2 => Call::Stop(self.born.draw(self.desk.kernel(), random)),
             3 => Call::Yield,
@@ -432,6 +491,7 @@ impl Script {
             8 => Call::Read(random.between(0, 512) as u32),
             9 => Call::Release,
             10 => Call::Signal(random.below(SEMAPHORES) as u32),
+            11 => Call::Mailbox(random.below(MAILBOXES) as u32, capacity(random), mode(random)),
             _ => Call::Wait(random.below(SEMAPHORES) as u32),
         }
     }
@@ -559,7 +619,7 @@ fn out_of_range(random: &mut Random, kernel: &Kernel) -> Call {
         };
         number as u32
     };
-    match random.below(7) {
+    match random.below(8) {
         0 => Call::Create(over(random, CLASSES)),
         1 => Call::Class(over(random, CLASSES)),
         2 => {
@@ -569,6 +629,7 @@ fn out_of_range(random: &mut Random, kernel: &Kernel) -> Call {
         3 => Call::Stop(BIRTHS * u32::from(kernel.births[random.below(PROCESSES)])),
         4 => Call::Send(over(random, MAILBOXES), message(random)),
         5 => Call::Receive(over(random, MAILBOXES)),
+        6 => Call::Mailbox(over(random, MAILBOXES), capacity(random), mode(random)),
         _ if random.one_in(2) => Call::Signal(over(random, SEMAPHORES)),
         _ => Call::Wait(over(random, SEMAPHORES)),
     }

@@ -1,5 +1,5 @@
-//! Which states are sound: "Where everything stands" of document 01, sentence by sentence, with the slice and the birth counts
-//! of document 02.
+//! Which states are sound: "Where everything stands" of document 01, sentence by sentence, with the slice, the birth counts
+//! and the sizes of mailboxes of document 02.
 
 use crate::kernel::*;
 
@@ -11,6 +11,7 @@ pub fn is_sound(kernel: &Kernel) -> bool {
         && numbers_are_right(kernel)
         && buffers_are_right(kernel)
         && queues_are_right(kernel)
+        && sizes_are_right(kernel)
         && the_name_of_0_is_right(kernel)
 }
 
@@ -62,13 +63,20 @@ fn buffers_are_right(kernel: &Kernel) -> bool {
         && waiters_at_mailboxes(kernel).flatten().all(|&waiter| kernel.hand_of(waiter).is_none())
 }
 
-/// At most 8 messages are queued in a mailbox, and none where a process waits. A semaphore where a process waits counts 0.
+/// No more messages are queued in a mailbox than its capacity, and none where a process waits. A semaphore where a process
+/// waits counts 0.
 fn queues_are_right(kernel: &Kernel) -> bool {
     let mailbox_is_right = |mailbox: &Mailbox| {
-        mailbox.messages.len() <= MAILBOX_MESSAGES && (mailbox.messages.is_empty() || mailbox.waiters.is_empty())
+        mailbox.messages.len() <= mailbox.capacity && (mailbox.messages.is_empty() || mailbox.waiters.is_empty())
     };
     kernel.mailboxes.iter().all(mailbox_is_right)
         && kernel.semaphores.iter().all(|semaphore| semaphore.count == 0 || semaphore.waiters.is_empty())
+}
+
+/// Each capacity is 1 to 32, and each mode 0 or 1.
+fn sizes_are_right(kernel: &Kernel) -> bool {
+    let size_is_right = |mailbox: &Mailbox| (1..=LARGEST_CAPACITY).contains(&mailbox.capacity) && [REFUSES, DROPS].contains(&mailbox.mode);
+    kernel.mailboxes.iter().all(size_is_right)
 }
 
 /// Process 0's name is 0. The birth counts of all others may be anything.

@@ -1,13 +1,19 @@
-//! The random scripts name a slice in every way, and reach every code, every kind of reason, every kind of name and every deep
-//! state, with fixed seeds; and each seed gives one script.
+//! The random scripts name a slice in every way, and reach every code, every kind of reason, every kind of name, all that can be
+//! met at mailboxes and every deep state, with fixed seeds; and each seed gives one script.
 
 use independent::coverage::Coverage;
 use independent::scripts::{script, Questioned, Script};
 
-#[test]
-fn everything_is_reached() {
+/// What 16 scripts reach, of those that tests/scripts compares.
+fn reached() -> Coverage {
     let mut all = Coverage::default();
     (0..16).for_each(|seed| all.add(seed, 2_000));
+    all
+}
+
+#[test]
+fn everything_is_reached() {
+    let all = reached();
     assert!(all.missing().is_empty(), "not reached: {:?}\n{all}", all.missing());
     assert_eq!(all.styles.len(), 8);
 }
@@ -116,6 +122,97 @@ fn names_return_in_few_scripts() {
     let reborn: Vec<u64> = (0..64).filter(|&seed| lines(seed) >= 258).collect();
     assert_eq!(reborn, [4, 20, 36, 52]);
     let mut opening = Script::new(4, 0);
+    assert!(std::iter::from_fn(|| opening.next_line()).count() < 600);
+}
+
+#[test]
+fn every_kind_at_mailboxes_is_wanted() {
+    let nothing = Coverage::default().missing();
+    for what in [
+        "code 17",
+        "code 18",
+        "a mailbox with 32 messages",
+        "at a mailbox: set to refuse at 1",
+        "at a mailbox: set to refuse at 2",
+        "at a mailbox: set to refuse at 3 to 7",
+        "at a mailbox: set to refuse at 8",
+        "at a mailbox: set to refuse at 9 to 31",
+        "at a mailbox: set to refuse at 32",
+        "at a mailbox: set to drop at 1",
+        "at a mailbox: set to drop at 32",
+        "at a mailbox: set while 0 runs",
+        "at a mailbox: set while a process runs",
+        "at a mailbox: set to what it is",
+        "at a mailbox: set back to what it was, after it was full",
+        "at a mailbox: 3 for mailbox 16",
+        "at a mailbox: 3 for a mailbox over 16",
+        "at a mailbox: 3 where the capacity is wrong too",
+        "at a mailbox: 3 where the mode is wrong too",
+        "at a mailbox: 17 for a capacity of 0",
+        "at a mailbox: 17 for a capacity of 33",
+        "at a mailbox: 17 for a capacity over 255",
+        "at a mailbox: 17 for a mode of 2",
+        "at a mailbox: 17 for a mode over 255",
+        "at a mailbox: 17 for a capacity, with messages",
+        "at a mailbox: 17 for a capacity, with waiters",
+        "at a mailbox: 17 for a mode, with messages",
+        "at a mailbox: 17 for a mode, with waiters",
+        "at a mailbox: 18 for messages",
+        "at a mailbox: 18 for messages, where nothing would change",
+        "at a mailbox: 18 for waiters",
+        "at a mailbox: 18 for waiters, where nothing would change",
+        "at a mailbox: 18 while 0 runs",
+        "at a mailbox: 11 at 1",
+        "at a mailbox: 11 at 32",
+        "at a mailbox: 11 with no buffer free",
+        "at a mailbox: a drop at 1",
+        "at a mailbox: a drop at 8",
+        "at a mailbox: a drop at 32",
+        "at a mailbox: a drop with no other buffer free, at less than 32",
+        "at a mailbox: a drop with a lower buffer free",
+        "at a mailbox: a drop with only higher buffers free",
+        "at a mailbox: a drop while 0 runs",
+        "at a mailbox: 6 at a full mailbox that drops",
+        "at a mailbox: 12 at an empty mailbox that drops",
+        "at a mailbox: 12 at a mailbox with messages that drops",
+        "at a mailbox: 12 at a mailbox with waiters that drops",
+        "at a mailbox: to a waiter, at a mailbox that drops",
+        "at a mailbox: received, a message that a drop spared",
+        "the bad line: mailbox",
+        "the bad line: mailbox 5 3",
+        "the bad line: mailbox 5 3 1 0",
+        "the bad line: mailbox 5 03 1",
+        "the bad line: mailbox 5 65539 1",
+        "the bad line: Mailbox 5 3 1",
+    ] {
+        assert!(nothing.contains(&what.to_string()), "{what}: {nothing:?}");
+    }
+}
+
+/// Where one kind did not come, or one bad line, that is missing and nothing else.
+#[test]
+fn a_missing_kind_at_mailboxes_is_found() {
+    let all = reached();
+    assert_eq!((all.mailboxes.len(), all.near_mailboxes.len()), (81, 32));
+    for kind in all.mailboxes.keys() {
+        let mut without = all.clone();
+        without.mailboxes.remove(kind);
+        assert_eq!(without.missing(), [format!("at a mailbox: {kind}")]);
+    }
+    for line in &all.near_mailboxes {
+        let mut without = all.clone();
+        without.near_mailboxes.remove(line);
+        assert_eq!(without.missing(), [format!("the bad line: {line}")]);
+    }
+}
+
+/// Of 16 seeds one fills mailboxes of 32, of 8 and of another size, and reads what is in them.
+#[test]
+fn mailboxes_are_filled_in_few_scripts() {
+    let of_32 = |seed: u64| script(seed, 0).split(|&byte| byte == b'\n').any(|line| line == b"mailbox 15 32 1");
+    let filled: Vec<u64> = (0..64).filter(|&seed| of_32(seed)).collect();
+    assert_eq!(filled, [2, 18, 34, 50]);
+    let mut opening = Script::new(2, 0);
     assert!(std::iter::from_fn(|| opening.next_line()).count() < 600);
 }
 

@@ -34,6 +34,8 @@ fn fresh_image() {
     expected.extend([0; 32]);
     expected.extend([0; 32]);
     expected.push(5);
+    expected.extend([8; 16]);
+    expected.extend([0; 16]);
     assert_eq!(area[..], expected[..]);
     assert_eq!(decide(&area), Some(Kernel::fresh()));
     for slice in [1, 3, 4, 200, 255] {
@@ -65,6 +67,7 @@ fn example_of_the_page() {
     assert_eq!([area[33 + 1], area[33 + 4], area[33 + 7], area[33 + 2]], [3, 3, 3, 0]);
     assert_eq!(area[443..475], [&[0][..], &[1; 7], &[0; 24]].concat());
     assert_eq!(area[475], 3);
+    assert_eq!(area[476..], [[8; 16], [0; 16]].concat());
     assert_eq!(decide(&area), Some(example()));
 }
 
@@ -112,6 +115,26 @@ fn births_by_hand() {
     assert_eq!(decide(&expected), None);
 }
 
+/// Sizes stand alone: the rest of the image is the fresh one.
+#[test]
+fn sizes_by_hand() {
+    let mut kernel = Kernel::fresh_slice(3).unwrap();
+    let mut expected = image(&kernel);
+    for (mailbox, capacity, mode) in [(0, 1, 1), (1, 32, 0), (9, 32, 1), (14, 7, 0), (15, 1, 0)] {
+        assert_eq!(kernel.mailbox(mailbox, capacity.into(), mode.into()).code, 0);
+        expected[476 + mailbox as usize] = capacity;
+        expected[492 + mailbox as usize] = mode;
+    }
+    assert_eq!(image(&kernel), expected);
+    assert_eq!(decide(&expected), Some(kernel.clone()));
+    // Set again, also to what it is.
+    assert_eq!(kernel.mailbox(9, 32, 1).code, 0);
+    assert_eq!(image(&kernel), expected);
+    assert_eq!(kernel.mailbox(9, 8, 0).code, 0);
+    (expected[485], expected[501]) = (8, 0);
+    assert_eq!(image(&kernel), expected);
+}
+
 #[test]
 fn there_and_back() {
     for seed in 0..40 {
@@ -137,12 +160,13 @@ fn there_and_back() {
 fn other_lengths() {
     let area = image(&Kernel::fresh());
     assert_eq!(decide(&[]), None);
-    assert_eq!(decide(&area[..475]), None);
-    assert_eq!(decide(&area[..474]), None);
+    assert_eq!(decide(&area[..507]), None);
+    assert_eq!(decide(&area[..506]), None);
+    assert_eq!(decide(&area[..476]), None);
     assert_eq!(decide(&[&area[..443], &area[475..]].concat()), None);
     assert_eq!(decide(&[&area[..], &[0]].concat()), None);
-    assert_eq!(decide(&[0; 476]), None);
-    assert_eq!(decide(&[255; 476]), None);
+    assert_eq!(decide(&[0; 508]), None);
+    assert_eq!(decide(&[255; 508]), None);
 }
 
 /// Whether an area stays an image of a sound state when one byte of it changes, by the meaning of that byte alone.
@@ -185,6 +209,8 @@ fn stays_sound(kernel: &Kernel, area: &[u8], place: usize, byte: u8) -> bool {
             };
             byte != 0 && (0..PROCESSES).all(fits)
         }
+        476..=491 => (1..=32).contains(&byte) && kernel.mailboxes[place - 476].messages.len() <= byte.into(),
+        492..=507 => byte <= 1,
         _ => false,
     }
 }
@@ -309,6 +335,25 @@ fn every_line_of_where_everything_stands() {
     assert!(damaged(|kernel| kernel.semaphores[14].count = 65_535));
 }
 
+/// As many messages as the mailbox's own capacity. Mailbox 0 has two, mailbox 9 waiters, and mailbox 4 nothing.
+#[test]
+fn every_line_of_sizes() {
+    let filled = |kernel: &mut Kernel, messages: usize, capacity: usize| {
+        kernel.mailboxes[1].messages.extend((10..10 + messages).map(|buffer| Message { buffer, bytes: vec![0] }));
+        kernel.mailboxes[1].capacity = capacity;
+    };
+    for (messages, capacity, sound) in [(1, 1, true), (2, 1, false), (9, 9, true), (9, 8, false), (22, 22, true), (22, 32, true), (22, 21, false)] {
+        assert_eq!(damaged(|kernel| filled(kernel, messages, capacity)), sound, "{messages} of {capacity}");
+    }
+    for (mailbox, capacity, sound) in [(0, 1, false), (0, 2, true), (9, 1, true), (9, 0, false), (4, 0, false), (4, 32, true), (4, 33, false)] {
+        assert_eq!(damaged(|kernel| kernel.mailboxes[mailbox].capacity = capacity), sound, "mailbox {mailbox} of {capacity}");
+    }
+    for mailbox in [0, 4, 9, 15] {
+        assert!((0..=1).all(|mode| damaged(|kernel| kernel.mailboxes[mailbox].mode = mode)));
+        assert!([2, 3, 128, 255].iter().all(|&mode| !damaged(|kernel| kernel.mailboxes[mailbox].mode = mode)));
+    }
+}
+
 /// Changes some bytes of the image of `busy`; whether it is still an image of a sound state.
 fn rewritten(changes: &[(usize, u8)]) -> bool {
     let mut area = image(&busy());
@@ -379,4 +424,17 @@ fn bytes_by_hand() {
     assert!(rewritten(&[(343, 0), (344, 2)]));
     assert!(!rewritten(&[(343, 1), (344, 2)]));
     assert!(!rewritten(&[(343 + 62, 1)]));
+}
+
+#[test]
+fn bytes_of_sizes_by_hand() {
+    // Mailbox 0 has two messages, mailbox 9 waiters, the others nothing.
+    for (place, byte, sound) in [(476, 1, false), (476, 2, true), (485, 1, true), (477, 0, false), (491, 32, true), (491, 33, false)] {
+        assert_eq!(rewritten(&[(place, byte)]), sound, "{byte} at {place}");
+    }
+    for mode in 492..508 {
+        assert!(rewritten(&[(mode, 1)]));
+        assert!(!rewritten(&[(mode, 2)]));
+        assert!(!rewritten(&[(mode, 255)]));
+    }
 }

@@ -1,6 +1,6 @@
 //! Areas that may or may not hold a sound state.
 
-use independent::image::{image, BIRTH_COUNT, IMAGE_BYTES, SLICE};
+use independent::image::{image, BIRTH_COUNT, CAPACITY, IMAGE_BYTES, MODE, SLICE};
 use independent::kernel::*;
 use independent::random::Random;
 
@@ -49,13 +49,15 @@ pub fn damaged(images: &[Vec<u8>], random: &mut Random) -> Vec<u8> {
     let mut area = images[random.below(images.len())].clone();
     for _ in 0..random.between(1, 4) {
         let (at, other) = (random.below(area.len()), random.below(area.len()));
-        match random.below(7) {
+        match random.below(9) {
             0 => area[at] = random.next() as u8,
             1 => area[at] = random.below(70) as u8,
             2 => area[at] ^= 1 << random.below(8),
             3 => area.swap(at, other),
             4 => area[SLICE] = random.below(8) as u8,
             5 => area[BIRTH_COUNT + random.below(3)] = random.next() as u8,
+            6 => area[CAPACITY + random.below(MAILBOXES)] = random.below(36) as u8,
+            7 => area[MODE + random.below(MAILBOXES)] = random.below(4) as u8,
             _ => {
                 let from = &images[random.below(images.len())];
                 let end = (at + random.between(1, 70)).min(area.len());
@@ -103,7 +105,7 @@ fn displace(kernel: &mut Kernel, random: &mut Random) {
     let (mailbox, other) = (random.below(MAILBOXES), random.below(MAILBOXES));
     let class = random.below(CLASSES);
     let queued = kernel.mailboxes[other].messages.pop_back();
-    match random.below(19) {
+    match random.below(22) {
         0 => kernel.ready[class].push_back(kernel.running),
         1 => kernel.mailboxes[mailbox].waiters.push_back(kernel.running),
         2 => kernel.semaphores[mailbox].waiters.push_front(kernel.running),
@@ -132,6 +134,9 @@ fn displace(kernel: &mut Kernel, random: &mut Random) {
         13 => kernel.slice = random.below(8) as u32,
         14 => kernel.births[0] = random.below(3) as u8,
         15 => kernel.births[number] = random.next() as u8,
+        16 => kernel.mailboxes[mailbox].capacity = random.below(LARGEST_CAPACITY + 4),
+        17 => kernel.mailboxes[mailbox].mode = random.below(4) as u32,
+        18 => kernel.mailboxes[mailbox].capacity = (kernel.mailboxes[mailbox].messages.len() + random.below(2)).saturating_sub(1),
         _ => {
             let Some(process) = &mut kernel.processes[number] else { return };
             match random.below(4) {
@@ -151,5 +156,43 @@ fn displace(kernel: &mut Kernel, random: &mut Random) {
 /// All messages of all mailboxes, up to one too many, into one.
 fn crowd(kernel: &mut Kernel, mailbox: usize) {
     let all: Vec<Message> = kernel.mailboxes.iter_mut().flat_map(|from| from.messages.drain(..)).collect();
-    kernel.mailboxes[mailbox].messages.extend(all.into_iter().take(MAILBOX_MESSAGES + 1));
+    let one_too_many = kernel.mailboxes[mailbox].capacity + 1;
+    kernel.mailboxes[mailbox].messages.extend(all.into_iter().take(one_too_many));
+}
+
+/// Capacities and modes to put in the place of another: all that may be, those beside them, and some that look alike in fewer
+/// bits.
+fn sizes() -> (Vec<u8>, Vec<u8>) {
+    let capacities = (0..=40).chain([63, 64, 65, 127, 128, 129, 136, 160, 254, 255]);
+    (capacities.collect(), vec![0, 1, 2, 3, 4, 32, 127, 128, 129, 254, 255])
+}
+
+/// The image of a sound state with another capacity or mode for each mailbox in turn, and whether that is one too: the capacity
+/// is 1 to 32 and not less than the mailbox holds, the mode 0 or 1.
+pub fn every_size_changed(sound: &Kernel) -> Vec<(Vec<u8>, bool)> {
+    let (capacities, modes) = sizes();
+    let with = |place: usize, byte: u8| {
+        let mut area = image(sound).to_vec();
+        area[place] = byte;
+        area
+    };
+    let mut areas = vec![];
+    for (number, mailbox) in sound.mailboxes.iter().enumerate() {
+        let least = mailbox.messages.len().max(1);
+        areas.extend(capacities.iter().map(|&byte| (with(CAPACITY + number, byte), (least..=32).contains(&usize::from(byte)))));
+        areas.extend(modes.iter().map(|&byte| (with(MODE + number, byte), byte <= 1)));
+    }
+    areas
+}
+
+/// Mailboxes of 1, 5, 8 and 18, all of them full, so that no buffer is free.
+pub fn full_mailboxes() -> Kernel {
+    let mut kernel = Kernel::fresh();
+    for (mailbox, capacity, mode) in [(0, 1, DROPS), (6, 5, REFUSES), (9, 8, DROPS), (15, 18, REFUSES)] {
+        kernel.mailbox(mailbox, capacity, mode);
+        for number in 0..capacity {
+            kernel.send(mailbox, &[number as u8]);
+        }
+    }
+    kernel
 }

@@ -4,9 +4,10 @@ use independent::answer::{Answer, DONE, NOT_SOUND, NO_SUCH_PROCESS};
 use independent::call::{Call, Told};
 use independent::grammar::line_of;
 use independent::image::{image, IMAGE_BYTES};
-use independent::kernel::{Kernel, BUFFER_BYTES, PROCESSES};
+use independent::kernel::{Kernel, BUFFER_BYTES, MAILBOXES, PROCESSES};
 use independent::lent;
 use independent::listing::Row;
+use independent::mailboxes::{beyond_scripts, in_scripts, History};
 use independent::names::{Born, Kind, IN_SCRIPTS};
 use independent::why::KINDS;
 use std::collections::BTreeMap;
@@ -21,6 +22,7 @@ const FRESH: u8 = 0;
 const LISTING: u8 = 13;
 const WHY: u8 = 14;
 const FRESH_SLICE: u8 = 15;
+const MAILBOX: u8 = 16;
 const ROOM_BYTE: u8 = 0x5c;
 const ROW_BYTE: u8 = 0xee;
 
@@ -61,6 +63,23 @@ fn all_that_is_named() -> impl Iterator<Item = String> {
     ["stop", "why"].into_iter().flat_map(move |call| kinds().map(move |kind| naming(call, kind)))
 }
 
+/// What a setting can ask for that comes to no sound state; other refusals come after that.
+const OF_NO_STATE: [&str; 3] = ["14 for a mailbox over 15", "14 for a wrong size", "14 for a right size"];
+
+fn of_no_state(call: &Call) -> Option<&'static str> {
+    match *call {
+        Call::Mailbox(number, ..) if number as usize >= MAILBOXES => Some(OF_NO_STATE[0]),
+        Call::Mailbox(_, capacity, mode) if !(1..=32).contains(&capacity) || mode > 1 => Some(OF_NO_STATE[1]),
+        Call::Mailbox(..) => Some(OF_NO_STATE[2]),
+        _ => None,
+    }
+}
+
+/// All that calls can meet at mailboxes.
+fn all_that_is_met() -> impl Iterator<Item = &'static str> {
+    in_scripts().chain(beyond_scripts()).chain(OF_NO_STATE)
+}
+
 fn kind(number: u32) -> String {
     format!("kind {number}")
 }
@@ -82,6 +101,7 @@ pub struct Batch {
     expected: Vec<Expected>,
     questions: Tally,
     names: Tally,
+    mailboxes: Tally,
 }
 
 impl Batch {
@@ -139,6 +159,9 @@ impl Batch {
             Call::Signal(semaphore) => self.request(11, *semaphore, 0, &[]),
             Call::Wait(semaphore) => self.request(12, *semaphore, 0, &[]),
             Call::Why(name) => self.request(WHY, *name, 0, &[]),
+            Call::Mailbox(mailbox, capacity, mode) => {
+                self.request(MAILBOX, *mailbox, 0, &[capacity.to_le_bytes(), mode.to_le_bytes()].concat());
+            }
         }
     }
 
@@ -162,10 +185,17 @@ impl Batch {
         *self.names.entry(what).or_default() += 1;
     }
 
+    /// Counts what a call meets at a mailbox that has been through this.
+    pub fn count_visit(&mut self, kernel: &Kernel, history: &History, call: &Call) {
+        for kind in history.kinds(kernel, call) {
+            *self.mailboxes.entry(kind.to_string()).or_default() += 1;
+        }
+    }
+
     /// A call on the kernel's image: the kernel and the store are changed as they must be.
     pub fn call(&mut self, kernel: &mut Kernel, store: &mut [u8], call: &Call) {
         self.request_call(call);
-        let buffer = kernel.lowest_free_buffer();
+        let buffer = if let Call::Send(mailbox, _) = call { kernel.buffer_for(*mailbox) } else { None };
         let (answer, told) = kernel.apply(call);
         let change = match (call, buffer) {
             (Call::Send(_, bytes), Some(buffer)) if answer.code == DONE => write_to(store, buffer * BUFFER_BYTES, bytes),
@@ -180,6 +210,9 @@ impl Batch {
         self.request_call(call);
         let answer = Answer { code: NOT_SOUND, number: 0, running: 0 };
         self.count_question(call, &answer, None);
+        if let Some(what) = of_no_state(call) {
+            *self.mailboxes.entry(what.to_string()).or_default() += 1;
+        }
         self.expect(line_of(call), answer, area.to_vec(), (0, vec![]), lent_after(call, None));
     }
 
@@ -239,6 +272,7 @@ pub struct Board {
     codes: [usize; 64],
     questions: Tally,
     names: Tally,
+    mailboxes: Tally,
 }
 
 impl Board {
@@ -246,13 +280,15 @@ impl Board {
         let mut driver = Command::new(&command[0]).args(&command[1..]).stdin(Stdio::piped()).stdout(Stdio::piped()).spawn()?;
         let requests = BufWriter::new(driver.stdin.take().expect("a pipe"));
         let replies = BufReader::new(driver.stdout.take().expect("a pipe"));
-        Ok(Board { driver, requests, replies, passed: 0, failed: 0, codes: [0; 64], questions: Tally::new(), names: Tally::new() })
+        let [questions, names, mailboxes] = Default::default();
+        Ok(Board { driver, requests, replies, passed: 0, failed: 0, codes: [0; 64], questions, names, mailboxes })
     }
 
     /// Makes the calls of a batch and compares each. A driver that stops is an error.
     pub fn run(&mut self, batch: &Batch) -> io::Result<()> {
         add_all(&mut self.questions, &batch.questions);
         add_all(&mut self.names, &batch.names);
+        add_all(&mut self.mailboxes, &batch.mailboxes);
         let (requests, replies) = (&mut self.requests, &mut self.replies);
         let (passed, failed, codes, driver) = (&mut self.passed, &mut self.failed, &mut self.codes, &mut self.driver);
         std::thread::scope(|scope| {
@@ -300,6 +336,11 @@ impl Board {
         let shown = |tally: &Tally| tally.iter().map(|(what, times)| format!("{what}: {times}")).collect::<Vec<_>>().join("; ");
         println!("questions by answer: {}", shown(&self.questions));
         println!("names: {}", shown(&self.names));
+        println!("at mailboxes: {}", shown(&self.mailboxes));
+        for what in all_that_is_met().filter(|what| !self.mailboxes.contains_key(*what)) {
+            println!("no call met this at a mailbox: {what}");
+            self.failed += 1;
+        }
         for what in all_that_is_named().filter(|what| !self.names.contains_key(what)) {
             println!("no call took such a name: {what}");
             self.failed += 1;

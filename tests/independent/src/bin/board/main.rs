@@ -5,12 +5,13 @@
 mod areas;
 mod driver;
 
-use areas::{damaged, every_bit_flipped, every_byte_changed, out_of_place, random_bytes};
+use areas::{damaged, every_bit_flipped, every_byte_changed, every_size_changed, full_mailboxes, out_of_place, random_bytes};
 use driver::{Batch, Board};
 use independent::call::Call;
 use independent::grammar::{named_slice, parse};
-use independent::image::{decide, field_of, image, take_bytes, BIRTH_COUNT, IMAGE_BYTES};
+use independent::image::{decide, field_of, image, take_bytes, BIRTH_COUNT, CAPACITY, IMAGE_BYTES};
 use independent::kernel::{Kernel, BIRTHS, BUFFER_BYTES, LONGEST_SLICE, PROCESSES, STORE_BYTES};
+use independent::mailboxes::History;
 use independent::names::Born;
 use independent::random::Random;
 use independent::scripts::Script;
@@ -41,8 +42,9 @@ const OTHER_NAMES: usize = 8;
 const REFUSED_SLICES: [u32; 11] = [0, 256, 257, 259, 511, 65_535, 65_536, 65_541, 0x8000_0003, 0xffff_ff05, u32::MAX];
 /// Slices that are used up, tick by tick.
 const USED_UP: [u32; 12] = [1, 2, 3, 4, 5, 6, 16, 127, 128, 129, 254, 255];
-/// Lengths of a state area that it must not have, up to the most that tests/board/driver.c has.
-const OTHER_LENGTHS: [usize; 8] = [0, 1, IMAGE_BYTES - 2, IMAGE_BYTES - 1, IMAGE_BYTES + 1, 512, 2 * IMAGE_BYTES, 4_096];
+/// Lengths of a state area that it must not have, that without mailboxes' sizes among them, up to the most that
+/// tests/board/driver.c has.
+const OTHER_LENGTHS: [usize; 9] = [0, 1, CAPACITY, IMAGE_BYTES - 2, IMAGE_BYTES - 1, IMAGE_BYTES + 1, 512, 2 * IMAGE_BYTES, 4_096];
 /// Fresh starts are made on so many areas of each kind: sound, damaged and random ones.
 const STARTED_AREAS: usize = 8;
 
@@ -56,7 +58,64 @@ fn enlarged(call: &Call, random: &mut Random) -> Call {
         Call::Send(_, bytes) => Call::Send(large, bytes.clone()),
         Call::Receive(_) => Call::Receive(large),
         Call::Signal(_) => Call::Signal(large),
+        Call::Mailbox(mailbox, capacity, mode) => enlarged_setting([*mailbox, *capacity, *mode], random),
         _ => Call::Wait(large),
+    }
+}
+
+/// A setting with one of its numbers past all that a script can name: in fewer bits it is the same, or it is near 2^32.
+fn enlarged_setting(mut numbers: [u32; 3], random: &mut Random) -> Call {
+    let number = &mut numbers[random.below(3)];
+    *number = match random.below(3) {
+        0 => *number + (1 << random.between(16, 31)),
+        1 => *number | (random.next() as u32 | 1) << 16,
+        _ => u32::MAX - random.below(32) as u32,
+    };
+    let [mailbox, capacity, mode] = numbers;
+    Call::Mailbox(mailbox, capacity, mode)
+}
+
+/// Calls from fresh, and what has been so far.
+struct Sequence<'a> {
+    batch: Batch,
+    kernel: Kernel,
+    store: &'a mut [u8],
+    born: Born,
+    history: History,
+}
+
+impl Sequence<'_> {
+    /// Makes a call, and counts what it names and meets.
+    fn make(&mut self, call: &Call) {
+        self.batch.count_name(&self.kernel, &self.born, call);
+        self.batch.count_visit(&self.kernel, &self.history, call);
+        self.history.follow(&self.kernel, call);
+        self.batch.call(&mut self.kernel, self.store, call);
+        self.born.follow(&self.kernel);
+    }
+
+    /// Makes a call of a script; now and then another one with a number past all that a script can name before it, and behind it
+    /// a question, a setting or a listing.
+    fn go_on(&mut self, call: &Call, random: &mut Random) {
+        if random.one_in(60) {
+            self.make(&enlarged(call, random));
+        }
+        self.make(call);
+        if random.one_in(12) {
+            let name = self.born.draw(&self.kernel, random) + if random.one_in(10) { BIRTHS * BIRTHS } else { 0 };
+            self.make(&Call::Why(name));
+        }
+        if random.one_in(25) {
+            let setting = self.history.draw(&self.kernel, random);
+            self.make(&if random.one_in(2) { enlarged(&setting, random) } else { setting });
+        }
+        if random.one_in(10) {
+            let shortest = if random.one_in(4) { 0 } else { PROCESSES };
+            self.batch.listing(&self.kernel, random.between(shortest, ROWS));
+        }
+        if random.one_in(100) {
+            ask_about_all(&mut self.batch, &mut self.kernel, self.store, random);
+        }
     }
 }
 
@@ -70,30 +129,14 @@ fn sequence(seed: u64, calls: u64, store: &mut [u8]) -> (Batch, Kernel) {
     if let Some(slice) = lines.peek().and_then(|line| named_slice(line)) {
         area = batch.fresh(&area, IMAGE_BYTES, Some(slice));
     }
-    let mut kernel = decide(&area).expect("the image of a fresh kernel");
-    let mut born = Born::default();
+    let kernel = decide(&area).expect("the image of a fresh kernel");
+    let mut run = Sequence { batch, kernel, store, born: Born::default(), history: History::default() };
     for line in lines {
         let Some(call) = parse(&line) else { continue };
-        let large = if random.one_in(60) { Some(enlarged(&call, &mut random)) } else { None };
-        for call in large.iter().chain([&call]) {
-            batch.count_name(&kernel, &born, call);
-            batch.call(&mut kernel, store, call);
-            born.follow(&kernel);
-        }
-        if random.one_in(12) {
-            let question = Call::Why(born.draw(&kernel, &mut random) + if random.one_in(10) { BIRTHS * BIRTHS } else { 0 });
-            batch.count_name(&kernel, &born, &question);
-            batch.call(&mut kernel, store, &question);
-        }
-        if random.one_in(10) {
-            let shortest = if random.one_in(4) { 0 } else { PROCESSES };
-            batch.listing(&kernel, random.between(shortest, ROWS));
-        }
-        if random.one_in(100) {
-            ask_about_all(&mut batch, &mut kernel, store, &mut random);
-        }
-        assert!(all_whole(&kernel, store), "the expected store holds every message whole");
+        run.go_on(&call, &mut random);
+        assert!(all_whole(&run.kernel, run.store), "the expected store holds every message whole");
     }
+    let Sequence { mut batch, mut kernel, store, .. } = run;
     ask_about_all(&mut batch, &mut kernel, store, &mut random);
     for rows in TABLES {
         batch.listing(&kernel, rows);
@@ -138,6 +181,23 @@ fn start_on(batch: &mut Batch, area: &[u8]) {
     }
 }
 
+/// Fresh starts on areas with everything that may be there before, full mailboxes of several sizes among them, and slices that
+/// are used up.
+fn start_on_all(board: &mut Board, today: u64, store: &mut [u8], images: &[Vec<u8>]) -> io::Result<()> {
+    let mut random = Random::new(today);
+    let mut batch = Batch::new(format!("fresh starts, seed {today}"));
+    for turn in 0..STARTED_AREAS {
+        for area in [images[EVERY * turn].clone(), damaged(images, &mut random), random_bytes(&mut random)] {
+            start_on(&mut batch, &area);
+        }
+    }
+    start_on(&mut batch, &image(&full_mailboxes()));
+    USED_UP.into_iter().for_each(|slice| use_up(&mut batch, store, slice));
+    board.run(&batch)?;
+    println!("calls in fresh starts: {}", batch.calls());
+    Ok(())
+}
+
 /// Two processes take turns until each has used up a slice.
 fn use_up(batch: &mut Batch, store: &mut [u8], slice: u32) {
     let area = batch.fresh(&[0; IMAGE_BYTES], IMAGE_BYTES, Some(slice));
@@ -168,7 +228,7 @@ fn any_name(area: &[u8], random: &mut Random) -> u32 {
 /// Any call, whatever the state in an area is.
 fn any_call(area: &[u8], random: &mut Random) -> Call {
     let number = random.below(18) as u32;
-    match random.below(12) {
+    match random.below(13) {
         0 => Call::Create(number % 6),
         1 => Call::Stop(any_name(area, random)),
         2 => Call::End,
@@ -183,6 +243,7 @@ fn any_call(area: &[u8], random: &mut Random) -> Call {
         8 => Call::Read(random.between(0, 512) as u32),
         9 => Call::Release,
         10 => Call::Signal(number),
+        11 => Call::Mailbox(number, random.below(35) as u32, random.below(3) as u32),
         _ => Call::Wait(number),
     }
 }
@@ -223,7 +284,7 @@ fn judge_all(board: &mut Board, name: String, store: &mut [u8], areas: impl Iter
 }
 
 /// Fields in which a flipped bit may leave a state that is sound.
-const UNNOTICED: [&str; 6] = ["class", "ticks", "length", "count", "births", "slice"];
+const UNNOTICED: [&str; 8] = ["class", "ticks", "length", "count", "births", "slice", "capacity", "mode"];
 
 /// Flips each bit in turn, and prints in which fields nobody can notice it.
 fn flip_all(board: &mut Board, name: &str, store: &mut [u8], sound: &[u8]) -> io::Result<()> {
@@ -232,6 +293,15 @@ fn flip_all(board: &mut Board, name: &str, store: &mut [u8], sound: &[u8]) -> io
     assert!(fields.iter().all(|field| UNNOTICED.contains(field)), "a flip in another field leaves a sound state");
     let counts = UNNOTICED.map(|field| format!("{field} {}", fields.iter().filter(|other| **other == field).count()));
     println!("  in {}", counts.join(", "));
+    Ok(())
+}
+
+/// Changes the size and the habit of each mailbox in turn. Which of that leaves a sound state is known beforehand.
+fn resize_all(board: &mut Board, name: &str, store: &mut [u8], sound: &Kernel) -> io::Result<()> {
+    let (areas, verdicts): (Vec<_>, Vec<bool>) = every_size_changed(sound).into_iter().unzip();
+    let taken = judge_all(board, format!("one capacity or mode changed, {name}"), store, areas.into_iter())?;
+    let right: Vec<usize> = (0..verdicts.len()).filter(|&number| verdicts[number]).collect();
+    assert!(taken == right, "a size is taken that is not right, or the other way round");
     Ok(())
 }
 
@@ -248,23 +318,17 @@ fn compare(board: &mut Board, today: u64) -> io::Result<()> {
     println!("calls in {} sequences: {calls}", kernels.len());
 
     let images: Vec<Vec<u8>> = kernels.iter().map(|kernel| image(kernel).to_vec()).collect();
-    let mut random = Random::new(today);
-    let mut batch = Batch::new(format!("fresh starts, seed {today}"));
-    for turn in 0..STARTED_AREAS {
-        for area in [images[EVERY * turn].clone(), damaged(&images, &mut random), random_bytes(&mut random)] {
-            start_on(&mut batch, &area);
-        }
-    }
-    USED_UP.into_iter().for_each(|slice| use_up(&mut batch, &mut store, slice));
-    board.run(&batch)?;
-    println!("calls in fresh starts: {}", batch.calls());
-
+    start_on_all(board, today, &mut store, &images)?;
     let fresh = ("fresh".to_string(), image(&Kernel::fresh()).to_vec());
     let after_seeds = (0..FIXED_SEEDS as usize).step_by(EVERY).map(|seed| (format!("after seed {seed}"), images[seed].clone()));
     for (number, (name, area)) in after_seeds.chain([fresh]).enumerate() {
         let areas = every_byte_changed(&area, &mut Random::new(number as u64));
         judge_all(board, format!("one byte changed, {name}"), &mut store, areas.into_iter())?;
         flip_all(board, &name, &mut store, &area)?;
+    }
+    resize_all(board, "full mailboxes", &mut store, &full_mailboxes())?;
+    for seed in (0..FIXED_SEEDS as usize).step_by(EVERY) {
+        resize_all(board, &format!("after seed {seed}"), &mut store, &kernels[seed])?;
     }
     let mut random = Random::new(today);
     judge_all(board, format!("several bytes changed, seed {today}"), &mut store, (0..DAMAGED).map(|_| damaged(&images, &mut random)))?;
