@@ -9,7 +9,7 @@ use lib.ListN.{length, getD, set, replicate, List·getD-eq-default}
 use lib.Seq.{getD-set-same, getD-set-other, ext-getD}
 use Rattle.lists.specs.Lists.{put}
 use Rattle.lists.proofs.Laws.{le?, put-cases}
-use Rattle.plain.specs.Mailboxes.{mostQueued, Sized}
+use Rattle.plain.specs.Mailboxes.{mostQueued, Habits}
 use Rattle.plain.specs.Sizes.{mailboxes}
 use Rattle.plain.specs.State.{usual}
 use Rattle.habits.specs.Tables.{entryIn, capacityIn, modeIn}
@@ -62,8 +62,8 @@ module _ (capacity mode : List ℕ) (long : length capacity ≡ mailboxes) (long
       (λ h. rw (← at m h .0, ← at m h .1) (each m h))
       (le? mailboxes m)
 
-  pub each-sized : Each → Sized (capacityIn capacity) (modeIn mode)
-  each-sized each = record { some = λ m. sizes each m .some; most = λ m. sizes each m .most; modes = λ m. sizes each m .of-two; no-more = past }
+  pub each-habits : Each → Habits (capacityIn capacity) (modeIn mode)
+  each-habits each = record { some = λ m. sizes each m .some; most = λ m. sizes each m .most; modes = λ m. sizes each m .of-two; no-more = past }
 
-  pub sized-each : Sized (capacityIn capacity) (modeIn mode) → Each
-  sized-each s m h = rw (at m h .0, at m h .1) (record { some = s .some m; most = s .most m; of-two = s .modes m })
+  pub habits-each : Habits (capacityIn capacity) (modeIn mode) → Each
+  habits-each s m h = rw (at m h .0, at m h .1) (record { some = s .some m; most = s .most m; of-two = s .modes m })

@@ -3,7 +3,7 @@
 ghost use mathlib.Core.Path.{_≡_};
 ghost use lib.Dec.{eqb};
 ghost use lib.ListN.{getD, set};
-ghost use Rattle.plain.specs.Mailboxes.{Sized};
+ghost use Rattle.plain.specs.Mailboxes.{Habits};
 ghost use Rattle.rings.specs.Decides.{Decides};
 ghost use Rattle.habits.specs.Tables.{capacityIn, modeIn};
 ghost use Rattle.habits.specs.Sizes.{Size};
@@ -70,7 +70,7 @@ fn is_size(capacity: u8, mode: u8) -> bool
 
 // Whether every mailbox may be set so. All are asked, with no early exit: so compiled, several at once.
 pub fn may_be_set(capacity: [u8; sizes::MAILBOXES], mode: [u8; sizes::MAILBOXES]) -> bool
-    ensures { λ r. ⌜ Decides r (Sized (capacityIn capacity) (modeIn mode)) ⌝ }
+    ensures { λ r. ⌜ Decides r (Habits (capacityIn capacity) (modeIn mode)) ⌝ }
 {
     let mut all = true;
     let mut m = 0;

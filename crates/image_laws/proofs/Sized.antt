@@ -102,8 +102,8 @@ sized {k} {s} H S =
       count = fitting U16 semaphores (k .count) (H .counts .long) (λ i h. omega (arith, H .counts .each i, S .counts .most i));
       births = fitting U8 processes (k .births) (H .births .long) (λ p h. omega (arith, H .births .each p, S .births .most p));
       slice = omega (arith, ap (λ (x : Settings). x .slice) (H .settings .is), S .settings .not-over);
-      capacity = entries-fit (usual .capacity) (s .settings .capacity) (k .settings .capacity) (H .settings .capacities) (ap (λ (x : Settings). x .capacity) (H .settings .is)) (λ m. omega (arith, S .settings .sized .most m));
-      mode = entries-fit (usual .mode) (s .settings .mode) (k .settings .mode) (H .settings .modes) (ap (λ (x : Settings). x .mode) (H .settings .is)) (λ m. omega (arith, S .settings .sized .modes m));
+      capacity = entries-fit (usual .capacity) (s .settings .capacity) (k .settings .capacity) (H .settings .capacities) (ap (λ (x : Settings). x .capacity) (H .settings .is)) (λ m. omega (arith, S .settings .habits .most m));
+      mode = entries-fit (usual .mode) (s .settings .mode) (k .settings .mode) (H .settings .modes) (ap (λ (x : Settings). x .mode) (H .settings .is)) (λ m. omega (arith, S .settings .habits .modes m));
     }
   where
     in-hand : (p : ℕ) → bufferIn (s .hand p) < buffers

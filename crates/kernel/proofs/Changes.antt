@@ -34,12 +34,12 @@ use Rattle.counts.proofs.Laws.{signalled-counted, claimed-counted}
 use Rattle.counts.specs.Counts as Counts
 use Rattle.names.proofs.Laws.{born-kept}
 use Rattle.names.specs.Counts as Names
-use Rattle.kernel.specs.Holds.{Sets, settingsOf, Holds}
+use Rattle.kernel.specs.Holds.{Named, settingsOf, Holds}
 use Rattle.kernel.specs.Judged.{Made}
 use Rattle.kernel.specs.declared.Kernel.{Kernel}
 use Rattle.kernel.specs.declared.Settings as Code
 
-pub made-holds : {r : Kernel} {s : State} {p : Stands.Numbers} {m : Carries.Numbers} {c b : List ℕ} {x : Code.Settings} → Made r p m c b x → Stands.Keeps p (s .procs) → Carries.Carries m (s .box) (s .hand) → Counts.Counted c (s .count) → Names.Kept b (s .births) → Sets x (s .settings) → Holds r s
+pub made-holds : {r : Kernel} {s : State} {p : Stands.Numbers} {m : Carries.Numbers} {c b : List ℕ} {x : Code.Settings} → Made r p m c b x → Stands.Keeps p (s .procs) → Carries.Carries m (s .box) (s .hand) → Counts.Counted c (s .count) → Names.Kept b (s .births) → Named x (s .settings) → Holds r s
 made-holds M P C N B e = record { procs = rw (M .procs) P; mail = rw (M .mail) C; counts = rw (M .count) N; births = rw (M .births) B; settings = rw (M .settings) e }
 
 module _ {k : Kernel} {s : State} (H : Holds k s) where

@@ -29,7 +29,7 @@ use Rattle.mail.specs.declared.Mail as Mail′
 use Rattle.habits.proofs.Laws.{entry-set}
 use Rattle.verdicts.specs.Chain.{found}
 use Rattle.kernel.specs.Full.{isFullAt, dropsAt, refusesAt, overflowsAt, busyAt}
-use Rattle.kernel.specs.Holds.{Sets, named, settingsOf, Holds}
+use Rattle.kernel.specs.Holds.{Named, named, settingsOf, Holds}
 use Rattle.kernel.specs.Judged.{Made}
 use Rattle.kernel.specs.declared.Kernel.{Kernel}
 use Rattle.kernel.specs.declared.Settings as Code
@@ -60,8 +60,8 @@ module _ {k : Kernel} {s : State} (H : Holds k s) (m : ℕ) where
     relieved-carried = ⊎-elim
         (λ h. relieved-cases m s (λ t. Carries.Carries (Mail.relieved (Carries.numbers (k .mail)) m (overflows m s)) (t .box) (t .hand))
         (λ z. rw z (H .mail))
-        (λ z. absurd (omega (arith, overflow-full m s z, S .settings .sized .some m, ap length (S .mail .no-more-boxes m h)))))
-        (λ h. relieved-carries s (H .mail) (S .mail) m h (S .settings .sized .some m))
+        (λ z. absurd (omega (arith, overflow-full m s z, S .settings .habits .some m, ap length (S .mail .no-more-boxes m h)))))
+        (λ h. relieved-carries s (H .mail) (S .mail) m h (S .settings .habits .some m))
         (le? mailboxes m)
 
     carried : Carries.Carries (Carries.numbers mail) (relieved m s .box) (relieved m s .hand)

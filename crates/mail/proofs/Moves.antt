@@ -7,7 +7,7 @@ use mathlib.Core.Logic.{_≢_, ⊎-elim}
 use mathlib.Core.List.{List, [], _∷_, _++_}
 use mathlib.Core.Option.{Option, none, some}
 use native.Mathlib.Omega.{arith}
-use lib.ListN.{length, getD, set, drop, length-set}
+use lib.ListN.{length, getD, set, length-set}
 use lib.Seq.{getD-set-same}
 use lib.Dec.{eqb}
 use borrow.Author.Tests.{eq-eqb, ne-eqb, lt-ltb, le-ltb}
@@ -31,7 +31,7 @@ use Rattle.mail.specs.Carries.{Numbers, bufferIn, isFree, AsLong, LongIn
 use Rattle.mail.specs.Moves.{freshMail, filled, freed, given, emptied, queuedLast, handedOver, delivered, oldestDropped, relieved, fetched, letGo}
 use Rattle.mail.proofs.Looks.{has-message, in-hand}
 use Rattle.plain_laws.proofs.Mail.{not-queued, not-in-hand}
-use Rattle.plain_laws.proofs.Relief.{relieved-cases, overflow-full}
+use Rattle.plain_laws.proofs.Relief.{relieved-by}
 use Rattle.mail.proofs.Held.{buffers-append, held-nowhere, held-queued, held-given, held-lost, held-let-go}
 use Rattle.mail.proofs.Parts.{put-kept, buffers-put, hands-put, no-more-put, full-put, free-put, zeros-put, long-queue, long-hand, long-rear}
 
@@ -239,13 +239,9 @@ module _ {k : Numbers} {box : ℕ → List Message} {hand : ℕ → Option Messa
 pub relieved-carries : {k : Numbers} (s : State) → Carries k (s .box) (s .hand) → Mail (s .settings .capacity) (s .box) (s .hand) → (m : ℕ) → m < mailboxes → 1 ≤ s .settings .capacity m
     → Carries (relieved k m (overflows m s)) (Mailboxes.relieved m s .box) (Mailboxes.relieved m s .hand)
 unfolding relieved
-relieved-carries {k} s K M m hm takes = relieved-cases m s (λ t. Carries (relieved k m (overflows m s)) (t .box) (t .hand))
+relieved-carries {k} s K M m hm takes = relieved-by m s (λ t. Carries (relieved k m (overflows m s)) (t .box) (t .hand)) takes
     (λ z. rw z K)
-    (λ o. rw o (lose (s .box m) refl (omega (arith, overflow-full m s o))))
-  where
-    lose : (l : List Message) → s .box m ≡ l → 1 ≤ length l → Carries (oldestDropped k m) (put (s .box) m (drop 1 l)) (s .hand)
-    lose [] e h = absurd (omega arith)
-    lose (x ∷ l) e h = oldest-carries K m x l hm e M
+    (λ x l e o. rw o (oldest-carries K m x l hm e M))
 
 -- w is the first of those who wait at mailbox m, with an empty hand, or no process where nobody waits: message x of n bytes, in buffer b, is delivered
 pub delivered-carries : {k : Numbers} (s : State) → Carries k (s .box) (s .hand) → (b n : ℕ) (x : Message) → b < buffers → held (s .box) (s .hand) b ≡ 0 → x .buffer ≡ b → length (x .bytes) ≡ n

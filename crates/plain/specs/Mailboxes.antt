@@ -55,7 +55,7 @@ abbrev pub noBuffer : ℕ → State → Bool
 noBuffer m s = eqb (bufferFor m s) buffers
 
 -- What is sound of capacities and modes; numbers from 16 on are nobody's, and stay as they start.
-pub record Sized (capacity mode : ℕ → ℕ) : Type 0 where
+pub record Habits (capacity mode : ℕ → ℕ) : Type 0 where
   pub some : (m : ℕ) → 1 ≤ capacity m
   pub most : (m : ℕ) → capacity m ≤ mostQueued
   pub modes : (m : ℕ) → mode m ≤ 1

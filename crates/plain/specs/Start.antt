@@ -5,7 +5,7 @@ use mathlib.Core.Bool.{_||_}
 use mathlib.Core.List.{List, [], _∷_}
 use lib.Dec.{ltb, eqb}
 use Rattle.plain.specs.State.{Settings, start, usual, fresh}
-use Rattle.plain.specs.Mailboxes.{Sized}
+use Rattle.plain.specs.Mailboxes.{Habits}
 use Rattle.plain.specs.Calls.{Refusal, on, Outcome, done, judge}
 
 -- "the slice as a setting, 1 to 255"
@@ -15,7 +15,7 @@ longestSlice = 255
 pub record Set (settings : Settings) : Type 0 where
   pub some-ticks : 1 ≤ settings .slice
   pub not-over : settings .slice ≤ longestSlice
-  pub sized : Sized (settings .capacity) (settings .mode)
+  pub habits : Habits (settings .capacity) (settings .mode)
 
 -- where n ticks are named
 abbrev pub sliceOf : ℕ → Settings

@@ -23,7 +23,7 @@ use Rattle.plain_laws.proofs.Calls.{judged, accepted}
 use Rattle.plain_laws.proofs.Mail.{held-box}
 use Rattle.plain_laws.proofs.Refusals.{accepted-passed, unchanged, settings-by}
 use Rattle.plain_laws.proofs.Seats.{head-in}
-use Rattle.plain_laws.proofs.Relief.{relieved-cases, overflow-full, no-overflow}
+use Rattle.plain_laws.proofs.Relief.{relieved-cases, relieved-by, overflow-full, no-overflow}
 
 -- ---- sends
 
@@ -58,13 +58,12 @@ never-11 s m b e = go (leb mailboxes m) (ltb longest (length b)) (refuses m s) (
 module _ (s : State) (k : Sound s) (m : ℕ) (o : overflows m s ≡ true) where
   -- there is an oldest message
   full : 1 ≤ length (s .box m)
-  full = omega (arith, overflow-full m s o, k .settings .sized .some m)
+  full = omega (arith, overflow-full m s o, k .settings .habits .some m)
 
   -- whose buffer is free once it is lost
-  freed : m < mailboxes → (l : List Message) → s .box m ≡ l → freeBuffer (fill m (drop 1 l) s) ≢ buffers
+  freed : m < mailboxes → (x : Message) (l : List Message) → s .box m ≡ x ∷ l → freeBuffer (fill m l s) ≢ buffers
   unfolding freeBuffer
-  freed h [] e = absurd (omega (arith, full, ap length e))
-  freed h (x ∷ l) e =
+  freed h x l e =
       let b : ℕ = x .buffer in
       let less : held (put (s .box) m l) (s .hand) b + 1 ≤ held (s .box) (s .hand) b = omega (arith, held-box (s .box) (s .hand) m l b h, ap (λ (a : List Message). occurs b (buffersOf a)) e, one-same b) in
       let here : b < buffers = ⊎-elim (λ u. absurd (omega (arith, k .mail .no-more-buffers b u))) (λ u. u) (le? buffers b) in
@@ -78,7 +77,7 @@ module _ (s : State) (k : Sound s) (m : ℕ) (o : overflows m s ≡ true) where
         lt-leb mailboxes m h,
         le-ltb longest (length b) short,
         unrefused m s (overflow-drops m s o),
-        relieved-cases m s (λ t. eqb (freeBuffer t) buffers ≡ false) (λ e. absurd (true≢false (sym o ∙ e))) (λ e. ne-eqb (freeBuffer (fill m (drop 1 (s .box m)) s)) buffers (freed h (s .box m) refl)),
+        relieved-by m s (λ t. eqb (freeBuffer t) buffers ≡ false) (k .settings .habits .some m) (λ e. absurd (true≢false (sym o ∙ e))) (λ x l e z. ne-eqb (freeBuffer (fill m l s)) buffers (freed h x l e)),
       ) refl
 
   pub oldest : (b : List ℕ) → isDone (step s (send m b)) ≡ true → step s (send m b) .next .box m ≡ drop 1 (s .box m) ++ (record { buffer = bufferFor m s; bytes = b } ∷ [])

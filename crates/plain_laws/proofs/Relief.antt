@@ -13,7 +13,7 @@ use Rattle.lists.specs.Lists.{put, someone}
 use Rattle.lists.proofs.Laws.{either, or-false, put-same, put-other, put-cases}
 use Rattle.plain.specs.Sizes.{mailboxes, atMailbox}
 use Rattle.plain.specs.State.{Message, Settings, State, usual, fill}
-use Rattle.plain.specs.Mailboxes.{mostQueued, allotted, noSize, busy, isFull, drops, refuses, overflows, relieved, Sized}
+use Rattle.plain.specs.Mailboxes.{mostQueued, allotted, noSize, busy, isFull, drops, refuses, overflows, relieved, Habits}
 use Rattle.plain_laws.specs.History.{as-one}
 
 -- ---- the oldest message of a mailbox that overflows is gone
@@ -43,6 +43,15 @@ overflow-full m s e = leb-true (s .settings .capacity m) (length (s .box m)) (le
     left : (a b : Bool) → (a && b) ≡ true → a ≡ true
     left true b z = refl
     left false b z = z
+
+-- a mailbox that overflows has a first message if it takes one at least
+pub relieved-by : (m : ℕ) (s : State) (P : State → Type 0) → 1 ≤ s .settings .capacity m → (overflows m s ≡ false → P s)
+    → ((x : Message) (l : List Message) → s .box m ≡ x ∷ l → overflows m s ≡ true → P (fill m l s)) → P (relieved m s)
+relieved-by m s P some f g = relieved-cases m s P f (λ o. go (s .box m) refl o)
+  where
+    go : (l : List Message) → s .box m ≡ l → overflows m s ≡ true → P (fill m (drop 1 l) s)
+    go [] e o = absurd (omega (arith, overflow-full m s o, ap length e))
+    go (x ∷ l) e o = g x l e o
 
 -- one that neither refuses nor overflows is not full
 pub not-full : (m : ℕ) (s : State) → refuses m s ≡ false → overflows m s ≡ false → isFull m s ≡ false
@@ -82,12 +91,12 @@ idle-box m s e =
     let a = or-false (someone (s .box m)) (someone (s .procs .queue (atMailbox m))) e in
     (nobody (s .box m) (a .0), nobody (s .procs .queue (atMailbox m)) (a .1))
 
-pub usual-sized : Sized (usual .capacity) (usual .mode)
+pub usual-habits : Habits (usual .capacity) (usual .mode)
 unfolding mostQueued
-usual-sized = record { some = λ m. omega arith; most = λ m. omega arith; modes = λ m. omega arith; no-more = λ m h. (refl, refl) }
+usual-habits = record { some = λ m. omega arith; most = λ m. omega arith; modes = λ m. omega arith; no-more = λ m h. (refl, refl) }
 
-pub sized-allotted : (x : Settings) → Sized (x .capacity) (x .mode) → (m c d : ℕ) → m < mailboxes → noSize c d ≡ false → Sized (allotted m c d x .capacity) (allotted m c d x .mode)
-sized-allotted x k m c d h e =
+pub habits-allotted : (x : Settings) → Habits (x .capacity) (x .mode) → (m c d : ℕ) → m < mailboxes → noSize c d ≡ false → Habits (allotted m c d x .capacity) (allotted m c d x .mode)
+habits-allotted x k m c d h e =
     let z = size-passed c d e in
     record {
       some = λ i. put-cases (λ (a : ℕ). 1 ≤ a) (x .capacity) m c i (λ y. z .0) (λ y. k .some i);

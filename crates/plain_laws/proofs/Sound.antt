@@ -8,7 +8,7 @@ use mathlib.Core.List.{List, [], _∷_, _++_, nil≢cons}
 use mathlib.Core.Option.{Option, none, some}
 use native.Mathlib.Omega.{arith}
 use lib.Dec.{leb, eqb}
-use lib.ListN.{length, drop}
+use lib.ListN.{length}
 use borrow.Author.Tests.{ltb-false, leb-false, eqb-false, not-false}
 use Rattle.lists.specs.Lists.{put, occurs}
 use Rattle.lists.proofs.Laws.{same?, put-same, put-other, put-cases, one-other, total-zero}
@@ -30,7 +30,7 @@ use Rattle.plain_laws.proofs.Frames.{Framed, Nowhere, Nobody, slice-som
 use Rattle.plain_laws.proofs.Calls.{judged, accepted, somebody, next-process, create-settles, wake-settles, stayed, made, roused, yields, grades, halted, paused, ticks}
 use Rattle.plain_laws.proofs.Refusals.{own-codes}
 use Rattle.plain_laws.proofs.Mail.{Fits, fits-free, mail-queue, mail-hand, mail-fetch, mail-drop, mail-lose, mail-allotted}
-use Rattle.plain_laws.proofs.Relief.{relieved-cases, overflow-full, not-full, idle-box, usual-sized, sized-allotted}
+use Rattle.plain_laws.proofs.Relief.{relieved-by, not-full, idle-box, usual-habits, habits-allotted}
 
 empty-hand : (h : Option Message) → isEmpty h ≡ true → h ≡ none
 empty-hand none e = refl
@@ -216,7 +216,7 @@ module _ (s : State) (k : Sound s) where
   -- a mailbox takes c messages from now on and is of mode d, where nothing lies there
   allots : (m c d : ℕ) → m < mailboxes → noSize c d ≡ false → s .box m ≡ [] → Goes 0 (allot m c d s)
   allots m c d h e empty = still _ refl refl (record {
-    settings = record { some-ticks = k .settings .some-ticks; not-over = k .settings .not-over; sized = sized-allotted (s .settings) (k .settings .sized) m c d h e };
+    settings = record { some-ticks = k .settings .some-ticks; not-over = k .settings .not-over; habits = habits-allotted (s .settings) (k .settings .habits) m c d h e };
     seated = k .seated;
     highest = k .highest;
     mail = mail-allotted (s .settings .capacity) (s .box) (s .hand) (k .mail) m c empty;
@@ -233,11 +233,7 @@ module _ (s : State) (k : Sound s) where
 
   -- a send finds the state as it is, or without the first message of a mailbox that overflows
   relieves : (m : ℕ) (P : State → Type 0) → (overflows m s ≡ false → P s) → ((x : Message) (l : List Message) → s .box m ≡ x ∷ l → P (fill m l s)) → P (relieved m s)
-  relieves m P f g = relieved-cases m s P f (λ o. go (s .box m) refl o)
-    where
-      go : (l : List Message) → s .box m ≡ l → overflows m s ≡ true → P (fill m (drop 1 l) s)
-      go [] e o = absurd (omega (arith, overflow-full m s o, k .settings .sized .some m, ap length e))
-      go (x ∷ l) e o = g x l e
+  relieves m P f g = relieved-by m s P (k .settings .habits .some m) f (λ x l e o. g x l e)
 
   pub relieved-sound : (m : ℕ) → m < mailboxes → Sound (relieved m s)
   relieved-sound m h = relieves m Sound (λ e. k) (λ x l e. loses m x l h e)
@@ -328,7 +324,7 @@ module _ (s : State) (k : Sound s) where
 
 pub usual-set : Set usual
 unfolding longestSlice
-usual-set = record { some-ticks = omega arith; not-over = omega arith; sized = usual-sized }
+usual-set = record { some-ticks = omega arith; not-over = omega arith; habits = usual-habits }
 
 pub start-sound : (x : Settings) → Set x → Sound (start x)
 unfolding spots held

@@ -12,7 +12,7 @@ use Rattle.plain.specs.Calls.{Outcome, done, refused}
 use Rattle.plain.specs.Sound.{Sound}
 use Rattle.plain.specs.Start.{Set, longestSlice, sliceOf, noSlice, freshStart}
 use Rattle.plain.specs.State.{start, usual, fresh}
-use Rattle.plain_laws.proofs.Relief.{usual-sized}
+use Rattle.plain_laws.proofs.Relief.{usual-habits}
 use Rattle.plain_laws.proofs.Sound.{usual-set, start-sound}
 
 neither : (a b : Bool) → (a || b) ≡ false → (a ≡ false) × (b ≡ false)
@@ -27,7 +27,7 @@ module _ (n : ℕ) where
   passes-set e =
       let a = neither (eqb n 0) (ltb longestSlice n) e in
       let z = eqb-false n 0 (a .0) in
-      record { some-ticks = omega arith; not-over = ltb-false longestSlice n (a .1); sized = usual-sized }
+      record { some-ticks = omega arith; not-over = ltb-false longestSlice n (a .1); habits = usual-habits }
 
   -- it is refused, or begins
   pub start-cases : (P : Outcome → Type 0) → ((Set (sliceOf n) → ⊥) → P (refused (noSlice n) fresh)) → (Set (sliceOf n) → P (done 0 (start (sliceOf n)))) → P (freshStart n)

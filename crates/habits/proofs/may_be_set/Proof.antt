@@ -1,6 +1,6 @@
 -- `habits::may_be_set` meets its contract. The invariant: `all` says whether every mailbox below m may be set so. Assumes nothing.
 use Prim.Native.Nat.{ℕ, _≤_, _<_, _-_}
-use Rattle.habits.proofs.Laws.{each-sized, sized-each}
+use Rattle.habits.proofs.Laws.{each-habits, habits-each}
 use Rattle.habits.proofs.may_be_set.Statement.{statement}
 use Rattle.habits.proofs.may_be_set.Tie as tie
 use Rattle.habits.specs.Sizes.{Size}
@@ -34,7 +34,7 @@ returns c =
     let a = c .before .before .args in
     let long : length (a .t1) ≡ mailboxes = search needs in
     let long′ : length (a .t2) ≡ mailboxes = search needs in
-    decides-as _ (l .all) (λ f. each-sized (a .t1) (a .t2) long long′ (λ m h. f m (omega arith))) (λ s m h. sized-each (a .t1) (a .t2) long long′ s m (omega arith)) (l .inv .1)
+    decides-as _ (l .all) (λ f. each-habits (a .t1) (a .t2) long long′ (λ m h. f m (omega arith))) (λ s m h. habits-each (a .t1) (a .t2) long long′ s m (omega arith)) (l .inv .1)
 
 pub may-be-set-spec : {M : Type 1} → statement M
 may-be-set-spec =
