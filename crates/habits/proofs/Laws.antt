@@ -13,7 +13,7 @@ use Rattle.plain.specs.Mailboxes.{mostQueued, Habits}
 use Rattle.plain.specs.Sizes.{mailboxes}
 use Rattle.plain.specs.State.{usual}
 use Rattle.habits.specs.Tables.{entryIn, capacityIn, modeIn}
-use Rattle.habits.specs.Sizes.{Size}
+use Rattle.habits.specs.Size.{Size}
 
 -- before the end of a table it does not matter what there is behind it
 pub inside : (t : List ℕ) (m d e : ℕ) → m < length t → getD t m d ≡ getD t m e

@@ -1,2 +1,2 @@
 pub mod Tables
-pub mod Sizes
+pub mod Size

@@ -6,7 +6,7 @@ ghost use lib.ListN.{getD, set};
 ghost use Rattle.plain.specs.Mailboxes.{Habits};
 ghost use Rattle.rings.specs.Decides.{Decides};
 ghost use Rattle.habits.specs.Tables.{capacityIn, modeIn};
-ghost use Rattle.habits.specs.Sizes.{Size};
+ghost use Rattle.habits.specs.Size.{Size};
 
 const MAILBOXES: u32 = sizes::MAILBOXES as u32;
 

@@ -16,7 +16,7 @@ use Rattle.plain.specs.State.{Message, State}
 use Rattle.plain.specs.Mailboxes.{overflows, relieved, bufferFor}
 use Rattle.plain.specs.Calls.{Call, create, stop, end, yield, class, tick, mailbox, send, receive, read, release, signal, wait, Outcome, caller, done, deliver, fetch, wake, claim, perform}
 use Rattle.plain_laws.specs.History.{kind, Kind, posts, fetches, other, as-one, isSend, isGone, isDropped, settingsBy, isDone, isRefusal}
-use Rattle.plain_laws.specs.Mailboxes.{Kept}
+use Rattle.plain_laws.specs.Mailboxes.{Remains}
 use Rattle.plain_laws.proofs.Relief.{relieved-cases, relieved-other, relieved-length}
 
 -- what a call of this kind does to mailbox m
@@ -27,7 +27,7 @@ pub record Accepts (s : State) (i : Kind) (o : Outcome) : Type 0 where
   pub code : isRefusal (o .answer) ≡ false
   pub settings : o .next .settings ≡ settingsBy i (s .settings)
   pub even : (m : ℕ) → Even m s i o
-  pub keeps : (m : ℕ) (x : Message) → overflows m s ≡ false → List·Memᴰ x (s .box m) → Kept m x (o .next)
+  pub keeps : (m : ℕ) (x : Message) → overflows m s ≡ false → List·Memᴰ x (s .box m) → Remains m x (o .next)
 
 -- a call that is not counted leaves the mailboxes alone
 alone : (s : State) (o : Outcome) → isRefusal (o .answer) ≡ false → o .next .settings ≡ s .settings → o .next .box ≡ s .box → Accepts s other o

@@ -17,7 +17,7 @@ use Rattle.plain.specs.Mailboxes.{isFull, drops, refuses, overflows, relieved, 
 use Rattle.plain.specs.Calls.{Call, send, Outcome, deliver, perform, on, refusals, judge, step}
 use Rattle.plain.specs.Sound.{Mail, Sound}
 use Rattle.plain_laws.specs.History.{Kind, falls, posts, fetches, sets, other, kind, Passed, First, as-one, isDone, isDropped, isRefusal, settingsBy, dropped}
-use Rattle.plain_laws.specs.Mailboxes.{Kept}
+use Rattle.plain_laws.specs.Mailboxes.{Remains}
 use Rattle.plain_laws.proofs.Accepted.{accepts}
 use Rattle.plain_laws.proofs.Calls.{judged, accepted}
 use Rattle.plain_laws.proofs.Mail.{held-box}
@@ -96,9 +96,9 @@ module _ (s : State) (k : Sound s) (m : ℕ) (o : overflows m s ≡ true) where
 
 -- ---- what is kept
 
-pub keeps : (s : State) (c : Call) (m : ℕ) (x : Message) → (isFull m s ≡ false) ⊎ (drops m s ≡ false) → List·Memᴰ x (s .box m) → Kept m x (step s c .next)
+pub keeps : (s : State) (c : Call) (m : ℕ) (x : Message) → (isFull m s ≡ false) ⊎ (drops m s ≡ false) → List·Memᴰ x (s .box m) → Remains m x (step s c .next)
 unfolding step
-keeps s c m x h o = judged (Kept m x) (refusals s c) s (perform s c) (inl o) (λ p. accepts s c .keeps m x (no-overflow m s h) o)
+keeps s c m x h o = judged (Remains m x) (refusals s c) s (perform s c) (inl o) (λ p. accepts s c .keeps m x (no-overflow m s h) o)
 
 undropped : (m : ℕ) (s : State) (i : Kind) → overflows m s ≡ false → isDropped m s i ≡ false
 undropped m s falls e = refl

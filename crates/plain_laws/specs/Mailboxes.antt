@@ -15,8 +15,8 @@ use Rattle.plain.specs.Sound.{Sound}
 use Rattle.plain_laws.specs.History.{kind, sets, isDone, dropped}
 
 -- x is queued in mailbox m, or in somebody's hand
-abbrev pub Kept : ℕ → Message → State → Type 0
-Kept m x s = List·Memᴰ x (s .box m) ⊎ ((p : ℕ) × (s .hand p ≡ some x))
+abbrev pub Remains : ℕ → Message → State → Type 0
+Remains m x s = List·Memᴰ x (s .box m) ⊎ ((p : ℕ) × (s .hand p ≡ some x))
 
 pub record Mailboxes : Type 0 where
   -- a mailbox that drops "never gives 11"
@@ -27,6 +27,6 @@ pub record Mailboxes : Type 0 where
   pub oldest : (s : State) (m : ℕ) (b : List ℕ) → Sound s → overflows m s ≡ true → isDone (step s (send m b)) ≡ true
       → step s (send m b) .next .box m ≡ drop 1 (s .box m) ++ (record { buffer = bufferFor m s; bytes = b } ∷ [])
   -- "A mailbox that is not full drops nothing", and "a mailbox that refuses never drops": whatever is called, what is queued there stays, or goes into a hand
-  pub keeps : (s : State) (c : Call) (m : ℕ) (x : Message) → (isFull m s ≡ false) ⊎ (drops m s ≡ false) → List·Memᴰ x (s .box m) → Kept m x (step s c .next)
+  pub keeps : (s : State) (c : Call) (m : ℕ) (x : Message) → (isFull m s ≡ false) ⊎ (drops m s ≡ false) → List·Memᴰ x (s .box m) → Remains m x (step s c .next)
   -- over any calls from fresh: where m starts refusing, and none of them sets it to drop
   pub none-dropped : (x : Settings) (m : ℕ) (cs : List Call) → x .mode m ≢ 1 → ((n : ℕ) → List·Memᴰ (sets m n 1) (map kind cs) → ⊥) → dropped m (start x) cs ≡ 0

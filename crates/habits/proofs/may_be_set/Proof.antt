@@ -3,7 +3,7 @@ use Prim.Native.Nat.{ℕ, _≤_, _<_, _-_}
 use Rattle.habits.proofs.Laws.{each-habits, habits-each}
 use Rattle.habits.proofs.may_be_set.Statement.{statement}
 use Rattle.habits.proofs.may_be_set.Tie as tie
-use Rattle.habits.specs.Sizes.{Size}
+use Rattle.habits.specs.Size.{Size}
 use Rattle.plain.specs.Sizes.{mailboxes}
 use Rattle.rings.proofs.Decisions.{decides-as, decides-more}
 use Rattle.rings.specs.Decides.{Decides}
