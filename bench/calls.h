@@ -11,7 +11,7 @@ static int is_sound(const struct kernel *k);
 /* Copies a field between the image and the struct; x86-64 has the lowest byte first, as the image. */
 #define EACH_FIELD(copy) \
     copy(running) copy(class_of) copy(ticks) copy(next) copy(before) copy(ready) copy(unused) copy(box_next) \
-    copy(box_before) copy(hand) copy(full) copy(length) copy(free) copy(count) copy(births) copy(slice) \
+    copy(box_before) copy(hand) copy(full) copy(length) copy(free) copy(chain) copy(count) copy(births) copy(slice) \
     copy(capacity) copy(mode)
 #define FROM_IMAGE(field) memcpy(&k->field, state, sizeof k->field); state += sizeof k->field;
 #define TO_IMAGE(field) memcpy(state, &k->field, sizeof k->field); state += sizeof k->field;

@@ -1,5 +1,6 @@
 /* The decision as a C programmer may write it: the two tables of links are each other's inverse, the
- * rings are walked without asking that again, and each test leaves at the first thing that is wrong. */
+ * rings are walked without asking that again, each message's buffers are taken out of those that are not
+ * free, and each test leaves at the first thing that is wrong. */
 #include "calls.h"
 
 /* Whether the node behind each node has that node before it: then the links are rings. */
@@ -55,7 +56,7 @@ static int processes_sound(const struct kernel *k, uint8_t place[32]) {
     return k->running ? ready >> k->class_of[k->running] >> 1 == 0 : ready == 0;
 }
 
-/* The buffers that hands hold; 0 in *good if two hold the same, or one that should hold none does. */
+/* The first buffers of the messages in hands; 0 in *good if two hold the same, or one that should hold none does. */
 static uint32_t in_hands(const struct kernel *k, const uint8_t place[32], int *good) {
     uint32_t held = 0;
     unsigned p;
@@ -74,9 +75,23 @@ static uint32_t in_hands(const struct kernel *k, const uint8_t place[32], int *g
     return held;
 }
 
+/* Takes the buffers of the message that begins in b, as many as its length needs, out of those not yet reached. */
+static int chain_sound(const struct kernel *k, unsigned b, uint32_t *unreached) {
+    unsigned more = buffers_for(k->length[b]);
+    uint32_t left = *unreached;
+    for (;;) {
+        if (b >= CSENGADRUL_BUFFERS || !(left >> b & 1)) return 0;
+        left &= ~(1u << b);
+        if (--more == 0) break;
+        b = k->chain[b];
+    }
+    *unreached = left;
+    return k->chain[b] == b;
+}
+
 static int mail_sound(const struct kernel *k, const uint8_t place[32]) {
     uint8_t box[32], queued[CSENGADRUL_MAILBOXES] = {0};
-    uint32_t held;
+    uint32_t held, unreached = ~k->free;
     unsigned b, m;
     int good = 1;
     if (!are_rings(k->box_next, k->box_before, BUFFER_NODES)) return 0;
@@ -84,11 +99,14 @@ static int mail_sound(const struct kernel *k, const uint8_t place[32]) {
     held = in_hands(k, place, &good);
     if (!good) return 0;
     for (b = 0; b < CSENGADRUL_BUFFERS; b++) {
-        int free = k->free >> b & 1, is_queued = box[b] != NOWHERE, is_held = held >> b & 1;
-        if (free + is_queued + is_held != 1) return 0;
-        if (k->length[b] > (free ? 0 : CSENGADRUL_MESSAGE_SIZE)) return 0;
+        int is_queued = box[b] != NOWHERE, is_held = held >> b & 1;
+        if (is_queued && is_held) return 0;
+        if (k->length[b] > (is_queued || is_held ? CSENGADRUL_MESSAGE_SIZE : 0)) return 0;
+        if (k->free >> b & 1 && k->chain[b] != b) return 0;
         if (is_queued && ++queued[box[b] - BOX_HEAD] > k->capacity[box[b] - BOX_HEAD]) return 0;
+        if ((is_queued || is_held) && !chain_sound(k, b, &unreached)) return 0;
     }
+    if (unreached) return 0;
     for (m = 0; m < CSENGADRUL_MAILBOXES; m++)
         if (queued[m] && k->next[MAILBOX_HEAD + m] != MAILBOX_HEAD + m) return 0;
     return 1;

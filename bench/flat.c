@@ -1,6 +1,7 @@
-/* The decision as the board makes it, with the same loops: rings are walked one node after the other,
- * and where entries do not hang together all of them are looked at, with no exit before the last, so
- * that the compiler can take many at once. A place is 0 for none, else the number of the queue plus 1. */
+/* The decision as the board makes it, with the same loops: rings and chains are walked one node after
+ * the other, and where entries do not hang together all of them are looked at, with no exit before the
+ * last, so that the compiler can take many at once. A place is 0 for none, else the number of the queue
+ * plus 1. */
 #include "calls.h"
 
 #define MEMBERS 32 /* processes, or buffers: the nodes that are no heads */
@@ -123,21 +124,56 @@ static inline int hands_fit(const uint8_t hand[CSENGADRUL_PROCESSES], uint32_t f
     return 1;
 }
 
-static inline uint8_t buffer_fits(uint8_t place, uint16_t length, uint8_t free) {
-    return place == 0 ? length == 0 && free : length <= CSENGADRUL_MESSAGE_SIZE && !free;
+static inline uint8_t length_fits(uint8_t place, uint16_t length) {
+    return place == 0 ? length == 0 : length <= CSENGADRUL_MESSAGE_SIZE;
 }
 
-static inline int buffers_fit(const struct kernel *k, const uint8_t at[MEMBERS]) {
+static inline int lengths_fit(const struct kernel *k, const uint8_t at[MEMBERS]) {
     uint8_t wrong = 0;
     unsigned b;
-    for (b = 0; b < CSENGADRUL_BUFFERS; b++) wrong |= !buffer_fits(at[b], k->length[b], k->free >> b & 1);
+    for (b = 0; b < CSENGADRUL_BUFFERS; b++) wrong |= !length_fits(at[b], k->length[b]);
     return !wrong;
+}
+
+/* How many buffers the message has that begins in each: none where it has no place. */
+static inline void find_needs(const uint16_t length[MEMBERS], const uint8_t at[MEMBERS], uint8_t need[MEMBERS]) {
+    unsigned b;
+    for (b = 0; b < CSENGADRUL_BUFFERS; b++) need[b] = at[b] == 0 ? 0 : (uint8_t)buffers_for(length[b]);
+}
+
+/* Along the chain of a message, each of its buffers taken out of the open ones; the last links to itself. */
+static inline int walk_chain(const uint8_t chain[MEMBERS], unsigned b, unsigned need, uint32_t *open) {
+    if (need == 0) return 1;
+    for (;;) {
+        if (b >= CSENGADRUL_BUFFERS || !(*open >> b & 1)) return 0;
+        *open &= ~(1u << b);
+        if (--need == 0) return chain[b] == b;
+        b = chain[b];
+    }
+}
+
+static inline int free_ones_rest(const struct kernel *k) {
+    uint8_t wrong = 0;
+    unsigned b;
+    for (b = 0; b < CSENGADRUL_BUFFERS; b++) wrong |= k->free >> b & 1 && k->chain[b] != b;
+    return !wrong;
+}
+
+/* Whether the messages have all buffers that are not free, none twice. */
+static inline int chains_fit(const struct kernel *k, const uint8_t at[MEMBERS]) {
+    uint8_t need[MEMBERS];
+    uint32_t open = ~k->free;
+    unsigned b;
+    find_needs(k->length, at, need);
+    for (b = 0; b < CSENGADRUL_BUFFERS; b++)
+        if (!walk_chain(k->chain, b, need[b], &open)) return 0;
+    return open == 0 && free_ones_rest(k);
 }
 
 static inline int mail_sound(const struct kernel *k) {
     uint8_t at[MEMBERS];
     if (!find_places(k->box_next, k->box_before, BUFFER_NODES, at)) return 0;
-    return boxes_fit(k) && hands_fit(k->hand, k->full, at) && buffers_fit(k, at);
+    return boxes_fit(k) && hands_fit(k->hand, k->full, at) && lengths_fit(k, at) && chains_fit(k, at);
 }
 
 /* Whether a process may have a full hand: one that runs, is ready or waits at a semaphore. */

@@ -14,7 +14,7 @@
 #define SEMAPHORE_HEAD (MAILBOX_HEAD + CSENGADRUL_MAILBOXES)
 #define BOX_HEAD CSENGADRUL_BUFFERS
 
-/* Rings of nodes, as docs/IMAGE.md has them. */
+/* Rings of nodes and chains of buffers, as docs/IMAGE.md has them. */
 struct kernel {
     uint8_t running;
     uint8_t class_of[CSENGADRUL_PROCESSES];
@@ -29,6 +29,7 @@ struct kernel {
     uint32_t full;
     uint16_t length[CSENGADRUL_BUFFERS];
     uint32_t free;
+    uint8_t chain[CSENGADRUL_BUFFERS];
     uint16_t count[CSENGADRUL_SEMAPHORES];
     uint8_t births[CSENGADRUL_PROCESSES];
     uint8_t slice;
@@ -117,16 +118,63 @@ static void pause_at(struct kernel *k, uint8_t head) {
     choose(k);
 }
 
-static void free_buffer(struct kernel *k, uint8_t b) {
+static unsigned buffers_for(size_t length) {
+    return length == 0 ? 1 : (unsigned)((length - 1) / CSENGADRUL_BUFFER_SIZE + 1);
+}
+
+/* All buffers of the message that begins in b. */
+static void free_message(struct kernel *k, uint8_t b) {
+    uint8_t next = k->chain[b];
     k->length[b] = 0;
     k->free |= 1u << b;
+    while (next != b) {
+        k->chain[b] = b;
+        b = next;
+        next = k->chain[b];
+        k->free |= 1u << b;
+    }
+}
+
+static uint8_t take_lowest(struct kernel *k) {
+    uint8_t b = (uint8_t)__builtin_ctz(k->free);
+    k->free &= k->free - 1;
+    return b;
+}
+
+/* The lowest free buffers for a message of this length, which are there, as a chain. Gives the first. */
+static uint8_t take_buffers(struct kernel *k, size_t length) {
+    uint8_t first = take_lowest(k), b = first, next;
+    unsigned more = buffers_for(length) - 1;
+    k->length[first] = (uint16_t)length;
+    for (; more > 0; more--, b = next) k->chain[b] = next = take_lowest(k);
+    return first;
+}
+
+static size_t piece(size_t length) {
+    return length < CSENGADRUL_BUFFER_SIZE ? length : CSENGADRUL_BUFFER_SIZE;
+}
+
+static void write_message(const struct kernel *k, uint8_t b, uint8_t *store, const uint8_t *message, size_t length) {
+    size_t part;
+    for (; length > 0; length -= part, message += part, b = k->chain[b]) {
+        part = piece(length);
+        memcpy(store + CSENGADRUL_BUFFER_SIZE * b, message, part);
+    }
+}
+
+static void read_message(const struct kernel *k, uint8_t b, const uint8_t *store, uint8_t *room) {
+    size_t part, length = k->length[b];
+    for (; length > 0; length -= part, room += part, b = k->chain[b]) {
+        part = piece(length);
+        memcpy(room, store + CSENGADRUL_BUFFER_SIZE * b, part);
+    }
 }
 
 static void free_hand(struct kernel *k, uint8_t p) {
     uint8_t b = k->hand[p];
     k->full &= ~(1u << p);
     k->hand[p] = 0;
-    free_buffer(k, b);
+    free_message(k, b);
 }
 
 static void take_out(struct kernel *k, uint8_t p) {
@@ -144,6 +192,7 @@ static csengadrul_answer kernel_fresh(struct kernel *k, uint32_t slice) {
     memset(k, 0, sizeof *k);
     for (i = 0; i < PROCESS_NODES; i++) k->next[i] = k->before[i] = (uint8_t)i;
     for (i = 0; i < BUFFER_NODES; i++) k->box_next[i] = k->box_before[i] = (uint8_t)i;
+    for (i = 0; i < CSENGADRUL_BUFFERS; i++) k->chain[i] = (uint8_t)i;
     k->unused = ~1u;
     k->free = ~0u;
     k->slice = (uint8_t)slice;
@@ -231,28 +280,31 @@ static int box_full(const struct kernel *k, uint32_t mailbox) {
     return messages >= k->capacity[mailbox];
 }
 
-static void drop_oldest(struct kernel *k, uint8_t head) {
-    uint8_t b = k->box_next[head];
+/* Whether so many buffers are free, or would be after a drop of this message. */
+static int enough_free(const struct kernel *k, unsigned buffers, int drops, uint8_t oldest) {
+    unsigned free = (unsigned)__builtin_popcount(k->free);
+    return free >= buffers || (drops && free + buffers_for(k->length[oldest]) >= buffers);
+}
+
+static void drop(struct kernel *k, uint8_t b) {
     link_out(k->box_next, k->box_before, b);
-    free_buffer(k, b);
+    free_message(k, b);
 }
 
 static csengadrul_answer kernel_send(struct kernel *k, uint8_t *store, size_t store_length, uint32_t mailbox,
                                      const uint8_t *message, size_t length) {
     uint8_t b, head, waiters, p;
+    int full;
     if (store_length != CSENGADRUL_STORE_SIZE) return answer(k, CSENGADRUL_OTHER_STORE, 0);
     if (mailbox >= CSENGADRUL_MAILBOXES) return answer(k, CSENGADRUL_NO_MAILBOX, 0);
     if (length > CSENGADRUL_MESSAGE_SIZE) return answer(k, CSENGADRUL_LONG_MESSAGE, 0);
     head = (uint8_t)(BOX_HEAD + mailbox);
-    if (box_full(k, mailbox)) {
-        if (k->mode[mailbox] == CSENGADRUL_REFUSES) return answer(k, CSENGADRUL_MAILBOX_FULL, 0);
-        drop_oldest(k, head);
-    }
-    if (!k->free) return answer(k, CSENGADRUL_NO_BUFFER, 0);
-    b = (uint8_t)__builtin_ctz(k->free);
-    k->free &= k->free - 1;
-    k->length[b] = (uint16_t)length;
-    memcpy(store + CSENGADRUL_MESSAGE_SIZE * b, message, length);
+    full = box_full(k, mailbox);
+    if (full && k->mode[mailbox] == CSENGADRUL_REFUSES) return answer(k, CSENGADRUL_MAILBOX_FULL, 0);
+    if (!enough_free(k, buffers_for(length), full, k->box_next[head])) return answer(k, CSENGADRUL_NO_BUFFER, 0);
+    if (full) drop(k, k->box_next[head]);
+    b = take_buffers(k, length);
+    write_message(k, b, store, message, length);
     waiters = (uint8_t)(MAILBOX_HEAD + mailbox);
     p = k->next[waiters];
     if (p == waiters) {
@@ -291,7 +343,7 @@ static csengadrul_answer kernel_read(const struct kernel *k, const uint8_t *stor
     if (!(k->full >> p & 1)) return answer(k, CSENGADRUL_HAND_EMPTY, 0);
     b = k->hand[p];
     if (room_length < k->length[b]) return answer(k, CSENGADRUL_SHORT_ROOM, k->length[b]);
-    memcpy(room, store + CSENGADRUL_MESSAGE_SIZE * b, k->length[b]);
+    read_message(k, b, store, room);
     return answer(k, CSENGADRUL_DONE, k->length[b]);
 }
 

@@ -13,8 +13,9 @@
 #include <stdlib.h>
 #include <string.h>
 
-#define AREA 512 /* enough for an image, and for the struct of in_place.c */
-#define SLICE 3  /* ticks of a full slice, where calls are counted */
+#define AREA 576           /* enough for an image, and for the struct of in_place.c */
+#define LONGEST_TRIED 4200 /* bytes of a message that is tried: some are refused */
+#define SLICE 3            /* ticks of a full slice, where calls are counted */
 #define FIRST(number) ((number) + CSENGADRUL_BIRTHS) /* the name of the first process of a number */
 #define S state, CSENGADRUL_STATE_SIZE
 #define STORE store, sizeof store
@@ -24,7 +25,7 @@ static union {
     uint64_t aligned;
 } lent, prepared;
 static uint8_t *const state = lent.bytes;
-static uint8_t store[CSENGADRUL_STORE_SIZE], message[600], room[600];
+static uint8_t store[CSENGADRUL_STORE_SIZE], message[LONGEST_TRIED], room[LONGEST_TRIED];
 static csengadrul_row rows[CSENGADRUL_PROCESSES];
 static uint32_t names[CSENGADRUL_PROCESSES]; /* the last name of each number */
 
@@ -73,6 +74,12 @@ static csengadrul_answer set_mailbox(void) {
     return csengadrul_mailbox(S, mailbox, capacity, mode);
 }
 
+/* Mostly a short message; now and then one of several buffers, or one too long. */
+static uint32_t random_length(void) {
+    if (below(8)) return below(20);
+    return below(2) ? below(1600) : below(LONGEST_TRIED + 1);
+}
+
 /* So many bytes are shown of the room: the message read, or the whole table of rows. */
 static csengadrul_answer random_call(uint32_t *shown) {
     uint32_t length, i;
@@ -92,13 +99,13 @@ static csengadrul_answer random_call(uint32_t *shown) {
     case 10:
     case 11:
     case 12:
-        length = below(4) ? below(20) : below(520);
+        length = random_length();
         for (i = 0; i < length; i++) message[i] = (uint8_t)below(256);
         return csengadrul_send(S, STORE, pick(CSENGADRUL_MAILBOXES), message, length);
     case 13:
     case 14: return csengadrul_receive(S, pick(CSENGADRUL_MAILBOXES));
     case 15:
-        a = csengadrul_read(S, STORE, room, below(2) ? 512 : below(20));
+        a = csengadrul_read(S, STORE, room, below(2) ? CSENGADRUL_MESSAGE_SIZE : random_length());
         if (a.code == CSENGADRUL_DONE) *shown = a.number;
         return a;
     case 16: return csengadrul_release(S);
@@ -252,6 +259,12 @@ static void prepare_hand_512(void) {
     csengadrul_receive(S, 7);
 }
 
+static void prepare_hand_4096(void) {
+    prepare();
+    csengadrul_send(S, STORE, 9, message, 4096);
+    csengadrul_receive(S, 9);
+}
+
 #define LISTING csengadrul_listing(S, rows, CSENGADRUL_PROCESSES)
 
 /* name in the table, how the state is prepared, the call, the code that it gives */
@@ -269,12 +282,15 @@ static void prepare_hand_512(void) {
     row("send of 16 bytes", prepare, csengadrul_send(S, STORE, 3, message, 16), CSENGADRUL_DONE) \
     row("send of 16 bytes, dropping", prepare, csengadrul_send(S, STORE, 7, message, 16), CSENGADRUL_DONE) \
     row("send of 512 bytes", prepare, csengadrul_send(S, STORE, 3, message, 512), CSENGADRUL_DONE) \
+    row("send of 4096 bytes", prepare, csengadrul_send(S, STORE, 3, message, 4096), CSENGADRUL_DONE) \
     row("send of 16 bytes to a waiter", prepare, csengadrul_send(S, STORE, 4, message, 16), CSENGADRUL_DONE) \
     row("receive", prepare, csengadrul_receive(S, 3), CSENGADRUL_DONE) \
     row("receive, waiting", prepare, csengadrul_receive(S, 9), CSENGADRUL_WAITS) \
-    row("read of 16 bytes", prepare_hand_16, csengadrul_read(S, STORE, room, 512), CSENGADRUL_DONE) \
-    row("read of 512 bytes", prepare_hand_512, csengadrul_read(S, STORE, room, 512), CSENGADRUL_DONE) \
+    row("read of 16 bytes", prepare_hand_16, csengadrul_read(S, STORE, room, 4096), CSENGADRUL_DONE) \
+    row("read of 512 bytes", prepare_hand_512, csengadrul_read(S, STORE, room, 4096), CSENGADRUL_DONE) \
+    row("read of 4096 bytes", prepare_hand_4096, csengadrul_read(S, STORE, room, 4096), CSENGADRUL_DONE) \
     row("release", prepare_hand_16, csengadrul_release(S), CSENGADRUL_DONE) \
+    row("release of 4096 bytes", prepare_hand_4096, csengadrul_release(S), CSENGADRUL_DONE) \
     row("signal", prepare, csengadrul_signal(S, 6), CSENGADRUL_DONE) \
     row("signal, waking", prepare, csengadrul_signal(S, 5), CSENGADRUL_DONE) \
     row("wait", prepare, csengadrul_wait(S, 6), CSENGADRUL_DONE) \

@@ -7,6 +7,10 @@
  * store. Both are lent to each call that needs them, and a call touches no other
  * memory than the areas lent to it and its own stack.
  *
+ * The store is CSENGADRUL_BUFFERS buffers. A message has as many of them as its bytes
+ * need, one at least: its byte i lies in its buffer number i / CSENGADRUL_BUFFER_SIZE,
+ * at i % CSENGADRUL_BUFFER_SIZE. Its buffers need not be neighbours.
+ *
  * Every area is a pointer and a length.
  *  - The areas of one call do not overlap, and each has as many bytes as its
  *    length says. Only the firmware can see to this.
@@ -39,12 +43,12 @@
  * capacity of 8 and refuses; csengadrul_mailbox sets both anew, for one that has
  * neither messages nor waiters.
  *
- * "The caller" is the running process. A buffer "in hand" is the message that a
- * process received and has not released. "Choose" means: the first of the highest
- * class with anyone ready runs, else process 0. "Made ready" means: it joins the
- * rear of its class with a full slice, and runs at once if its class is above the
- * running one's or 0 runs; the process that ran then goes to the front of its
- * class with the ticks it has left.
+ * "The caller" is the running process. A message "in hand" is the one that a process
+ * received and has not released; it keeps its buffers until then. "Choose" means: the
+ * first of the highest class with anyone ready runs, else process 0. "Made ready"
+ * means: it joins the rear of its class with a full slice, and runs at once if its
+ * class is above the running one's or 0 runs; the process that ran then goes to the
+ * front of its class with the ticks it has left.
  */
 #ifndef CSENGADRUL_H
 #define CSENGADRUL_H
@@ -59,20 +63,22 @@ extern "C" {
 /* The version, major and minor: the minor goes up where something is added, the
  * major where the image changes or an answer does, so that a state area kept from
  * another major version is not to be lent. */
-#define CSENGADRUL_VERSION_MAJOR 4
+#define CSENGADRUL_VERSION_MAJOR 5
 #define CSENGADRUL_VERSION_MINOR 0
 #define CSENGADRUL_VERSION (100 * CSENGADRUL_VERSION_MAJOR + CSENGADRUL_VERSION_MINOR)
 
 /* Sizes. */
-#define CSENGADRUL_STATE_SIZE 508      /* bytes of the state area */
+#define CSENGADRUL_STATE_SIZE 540      /* bytes of the state area */
 #define CSENGADRUL_STORE_SIZE 16384    /* bytes of the store */
-#define CSENGADRUL_MESSAGE_SIZE 512    /* bytes of the longest message */
+#define CSENGADRUL_MESSAGE_SIZE 4096   /* bytes of the longest message */
 #define CSENGADRUL_PROCESSES 32        /* 0 to 31; 0 is the null process */
 #define CSENGADRUL_CLASSES 5           /* 0 to 4; 4 is the highest */
 #define CSENGADRUL_MAILBOXES 16        /* 0 to 15 */
 #define CSENGADRUL_USUAL_CAPACITY 8    /* messages queued in a mailbox at most, where nothing else is set */
 #define CSENGADRUL_LARGEST_CAPACITY 32 /* the largest capacity that may be set; the smallest is 1 */
 #define CSENGADRUL_BUFFERS 32          /* 0 to 31; buffer b begins at byte 512 b of the store */
+#define CSENGADRUL_BUFFER_SIZE 512     /* bytes of a buffer */
+#define CSENGADRUL_MESSAGE_BUFFERS 8   /* buffers of the longest message */
 #define CSENGADRUL_SEMAPHORES 16       /* 0 to 15 */
 #define CSENGADRUL_COUNT_LIMIT 65535   /* the highest count of a semaphore */
 #define CSENGADRUL_USUAL_SLICE 5       /* ticks of a full slice where none is named */
@@ -92,15 +98,16 @@ extern "C" {
 #define CSENGADRUL_OFFSET_UNUSED_BITS 207    /* unused processes */
 #define CSENGADRUL_OFFSET_MESSAGE_NEXT 211   /* mailboxes: the node after each node */
 #define CSENGADRUL_OFFSET_MESSAGE_BEFORE 259 /* mailboxes: the node before each node */
-#define CSENGADRUL_OFFSET_HAND 307           /* the buffer in the hand of each process */
+#define CSENGADRUL_OFFSET_HAND 307           /* the first buffer of the message in the hand of each process */
 #define CSENGADRUL_OFFSET_FULL_BITS 339      /* processes with a full hand */
-#define CSENGADRUL_OFFSET_LENGTH 343         /* length of the message in each buffer, two bytes */
+#define CSENGADRUL_OFFSET_LENGTH 343         /* length of the message that begins in each buffer, two bytes */
 #define CSENGADRUL_OFFSET_FREE_BITS 407      /* free buffers */
-#define CSENGADRUL_OFFSET_COUNT 411          /* count of each semaphore, two bytes */
-#define CSENGADRUL_OFFSET_BIRTHS 443         /* birth count of each number */
-#define CSENGADRUL_OFFSET_SLICE 475          /* ticks of a full slice */
-#define CSENGADRUL_OFFSET_CAPACITY 476       /* capacity of each mailbox */
-#define CSENGADRUL_OFFSET_MODE 492           /* mode of each mailbox */
+#define CSENGADRUL_OFFSET_CHAIN 411          /* the next buffer of its message; a last or free one: itself */
+#define CSENGADRUL_OFFSET_COUNT 443          /* count of each semaphore, two bytes */
+#define CSENGADRUL_OFFSET_BIRTHS 475         /* birth count of each number */
+#define CSENGADRUL_OFFSET_SLICE 507          /* ticks of a full slice */
+#define CSENGADRUL_OFFSET_CAPACITY 508       /* capacity of each mailbox */
+#define CSENGADRUL_OFFSET_MODE 524           /* mode of each mailbox */
 
 /* Codes of an answer. */
 enum {
@@ -110,13 +117,13 @@ enum {
     CSENGADRUL_NO_MAILBOX = 3,     /* the mailbox is over 15 */
     CSENGADRUL_NO_SEMAPHORE = 4,   /* the semaphore is over 15 */
     CSENGADRUL_NO_CALLER = 5,      /* only a process may call this, and process 0 runs */
-    CSENGADRUL_LONG_MESSAGE = 6,   /* the message is over 512 bytes */
+    CSENGADRUL_LONG_MESSAGE = 6,   /* the message is over 4,096 bytes */
     CSENGADRUL_HAND_FULL = 7,      /* the caller has a message in hand already */
     CSENGADRUL_HAND_EMPTY = 8,     /* the caller has no message in hand */
     CSENGADRUL_SHORT_ROOM = 9,     /* the room or the table is too short; number: the length needed */
     CSENGADRUL_ALL_PROCESSES = 10, /* no process number is unused */
     CSENGADRUL_MAILBOX_FULL = 11,  /* the mailbox holds its capacity, and refuses when full */
-    CSENGADRUL_NO_BUFFER = 12,     /* no buffer is free */
+    CSENGADRUL_NO_BUFFER = 12,     /* fewer buffers are free than the message needs */
     CSENGADRUL_COUNT_FULL = 13,    /* the semaphore counts 65,535 */
     CSENGADRUL_NOT_SOUND = 14,     /* the state area holds no sound state; number and running are 0 */
     CSENGADRUL_OTHER_STORE = 15,   /* the store is not 16,384 bytes long */
@@ -155,9 +162,9 @@ csengadrul_answer csengadrul_fresh_slice(uint8_t *state, size_t state_length, ui
  * State: the next image. */
 csengadrul_answer csengadrul_create(uint8_t *state, size_t state_length, uint32_t process_class);
 
-/* The process of this name leaves its place, the buffer in its hand becomes free,
- * its number unused; choose if it ran. Refuses: 14, 1 for a name whose number is 0,
- * over 31 or unused, or that has another birth count than its number.
+/* The process of this name leaves its place, every buffer of the message in its hand
+ * becomes free, its number unused; choose if it ran. Refuses: 14, 1 for a name whose
+ * number is 0, over 31 or unused, or that has another birth count than its number.
  * State: the next image. */
 csengadrul_answer csengadrul_stop(uint8_t *state, size_t state_length, uint32_t name);
 
@@ -194,16 +201,19 @@ enum {
 csengadrul_answer csengadrul_mailbox(uint8_t *state, size_t state_length, uint32_t mailbox, uint32_t capacity,
                                      uint32_t mode);
 
-/* The lowest free buffer takes the message. If someone waits at the mailbox, the
- * first waiter gets it in hand and is made ready; else it is queued there last.
+/* The lowest free buffers take the message, as many as it needs, its first bytes in the
+ * lowest. If someone waits at the mailbox, the first waiter gets it in hand and is made
+ * ready; else it is queued there last.
  * A mailbox that holds its capacity refuses with 11; but if its mode is to drop, its
- * oldest message is lost first, and the buffer of that one is free when the lowest is
- * looked for. So such a send is refused with neither 11 nor 12. A mailbox that does not
- * hold its capacity drops nothing, even where no buffer is free, nor does a refused send.
+ * oldest message is lost first, that one and no other, and its buffers are free when
+ * they are counted and the lowest are looked for. Such a send is never refused with 11,
+ * and with 12 where they are too few even so: then the oldest message stays. A mailbox
+ * that does not hold its capacity drops nothing, even where too few buffers are free,
+ * nor does a refused send.
  * Refuses: 14, 15, 3, 6, 11, 12.
- * State: the next image. Store: the message's own bytes, at the start of the
- * buffer that took it; every other byte stays. Message: only read, and not where
- * it is over 512 bytes. */
+ * State: the next image. Store: the message's own bytes, from the start of each buffer
+ * that took some; every other byte stays. Message: only read, and not where it is over
+ * 4,096 bytes. */
 csengadrul_answer csengadrul_send(uint8_t *state, size_t state_length, uint8_t *store, size_t store_length,
                                   uint32_t mailbox, const uint8_t *message, size_t message_length);
 
@@ -214,14 +224,14 @@ csengadrul_answer csengadrul_send(uint8_t *state, size_t state_length, uint8_t *
  * State: the next image. */
 csengadrul_answer csengadrul_receive(uint8_t *state, size_t state_length, uint32_t mailbox);
 
-/* Copies the message in the caller's hand to the start of the room. Number: its
- * length. Refuses: 14, 15, 5, 8, 9 (number: the message's length).
+/* Copies the message in the caller's hand, from all its buffers, to the start of the
+ * room. Number: its length. Refuses: 14, 15, 5, 8, 9 (number: the message's length).
  * State and store: only read. Room: the message's bytes at its start; the rest
  * stays, and is not touched. */
 csengadrul_answer csengadrul_read(const uint8_t *state, size_t state_length, const uint8_t *store, size_t store_length,
                                   uint8_t *room, size_t room_length);
 
-/* The buffer in the caller's hand becomes free. Refuses: 14, 5, 8.
+/* Every buffer of the message in the caller's hand becomes free. Refuses: 14, 5, 8.
  * State: the next image. */
 csengadrul_answer csengadrul_release(uint8_t *state, size_t state_length);
 

@@ -15,7 +15,7 @@ const char *csengadrul_code_text(uint32_t code) {
     case CSENGADRUL_SHORT_ROOM: return "the room or the table is too short";
     case CSENGADRUL_ALL_PROCESSES: return "every process number is in use";
     case CSENGADRUL_MAILBOX_FULL: return "the mailbox is full";
-    case CSENGADRUL_NO_BUFFER: return "no buffer is free";
+    case CSENGADRUL_NO_BUFFER: return "too few buffers are free";
     case CSENGADRUL_COUNT_FULL: return "the semaphore counts as far as it can";
     case CSENGADRUL_NOT_SOUND: return "the state area holds no sound state";
     case CSENGADRUL_OTHER_STORE: return "the store has another length";

@@ -1,10 +1,10 @@
 /*
  * A small rack: firmware over the kernel, to begin a product from.
  *
- * The rider has a page; line by line it sends the preamp the settings that stand
- * there and the printer the text. An interrupt brings readings for the meters; new
- * ones push out stale ones. In the middle of the page the printer is stopped with a
- * line in its hand, and started again later. Standard output is the paper, standard
+ * The rider has a page: it sends the preamp the settings that stand there, and the
+ * printer the text, whole in a single message. An interrupt brings readings for the
+ * meters; new ones push out stale ones. In the middle of the page the printer is stopped
+ * with it in its hand, and started again later. Standard output is the paper, standard
  * error what the operator sees. The status is 0 only if all of check_all holds.
  *
  * A task is a step function. The kernel says who runs, and the main loop takes a
@@ -26,11 +26,11 @@
 #define TIMER_TURNS 5    /* turns from one tick to the next */
 #define SLICE 3          /* ticks that a task runs before its equals have their turn */
 #define STOPPED_TURNS 40 /* turns that the printer stays stopped */
-#define LINE_SIZE 64     /* bytes of the longest line, with the zero behind it */
+#define LINE_SIZE 64     /* bytes of the longest line, with its newline and a zero */
 #define CHANNELS 32
 
 enum { PRINTER, PREAMP, METERS };                       /* mailboxes */
-enum { NEED };                                          /* a semaphore: the printer needs a line */
+enum { NEED };                                          /* a semaphore: the printer needs the page */
 enum { SHARED_CLASS = 1, PRINTER_CLASS, PREAMP_CLASS }; /* the rider and the meters share one, by the timer */
 enum { CHANNEL, GAIN, PHANTOM, SETTING_SIZE };          /* bytes of a setting: number, dB, 48 V */
 
@@ -38,16 +38,17 @@ static const struct {
     char text[LINE_SIZE];
     uint8_t setting[SETTING_SIZE]; /* channel 0: none */
 } page[] = {
-    {"MONITOR WORLD - PAGE 2 OF 5", {0, 0, 0}},
-    {"FOH desk at stage level, 24 m out, on axis", {0, 0, 0}},
-    {" 1 kick in       beta 91, no pad", {1, 24, 0}},
-    {" 2 kick out      d6, gate from ch 1", {2, 28, 0}},
-    {" 3 snare top     57, pad 10 dB", {3, 30, 0}},
-    {" 8 bass DI       48 V on, lift ground", {8, 20, 1}},
-    {" 9 keys L        passive DI", {9, 18, 0}},
-    {"10 keys R        passive DI", {10, 18, 0}},
-    {"14 ribbon OH     R84", {14, 42, 0}},
-    {"no phantom power on 14", {14, 42, 0}}
+    {"MONITOR WORLD - PAGE 2 OF 5\n", {0, 0, 0}},
+    {"FOH desk at stage level, 24 m out, on axis\n", {0, 0, 0}},
+    {" 1 kick in       beta 91, no pad, on the pillow\n", {1, 24, 0}},
+    {" 2 kick out      d6, gate from ch 1, on a short stand\n", {2, 28, 0}},
+    {" 3 snare top     57, pad 10 dB, a clip to the rim\n", {3, 30, 0}},
+    {" 8 bass DI       48 V on, lift ground, amp on stage left\n", {8, 20, 1}},
+    {" 9 keys L        passive DI, from a submix on the riser\n", {9, 18, 0}},
+    {"10 keys R        passive DI, from a submix on the riser\n", {10, 18, 0}},
+    {"14 ribbon OH     R84, a metre above the snare, on a boom\n", {14, 42, 0}},
+    {"drums on a riser of 60 cm, keys on one of 40, skirts black\n", {0, 0, 0}},
+    {"no phantom power on 14\n", {14, 42, 0}}
 };
 #define LINES (sizeof page / sizeof *page)
 
@@ -56,8 +57,9 @@ static uint8_t store[CSENGADRUL_STORE_SIZE];
 static uint8_t room[CSENGADRUL_MESSAGE_SIZE]; /* one for all tasks: no step leaves anything in it */
 static ring handlers;                         /* one for all: METERS drops, so that no tick waits behind a reading */
 
-static char paper[LINES][LINE_SIZE];
-static size_t printed; /* lines on paper */
+static char text[LINES * LINE_SIZE + 1]; /* of the page, as it is sent */
+static char paper[sizeof text];
+static size_t printed; /* bytes on paper */
 static uint8_t preamp[CHANNELS][SETTING_SIZE];
 static volatile unsigned readings;   /* that the handler has put */
 static unsigned arrived, pushed_out; /* of these, whole and in order; stale ones */
@@ -79,15 +81,20 @@ static csengadrul_answer expect(const char *call, csengadrul_answer answer, uint
     return answer;
 }
 
-/* Takes the message in the running task's hand to the room and frees its buffer. With
- * an empty hand the task receives instead, and has a message when it runs again. */
-static int take_message(uint32_t mailbox, size_t *length) {
+/* Reads the message in the running task's hand to the room. With an empty hand the
+ * task receives instead, and has a message when it runs again. */
+static int read_message(uint32_t mailbox, size_t *length) {
     csengadrul_answer answer = csengadrul_read(state, sizeof state, store, sizeof store, room, sizeof room);
     if (answer.code == CSENGADRUL_HAND_EMPTY) {
         expect("receive", csengadrul_receive(state, sizeof state, mailbox), CSENGADRUL_WAITS);
         return 0;
     }
     *length = expect("read", answer, CSENGADRUL_DONE).number;
+    return 1;
+}
+
+static int take_message(uint32_t mailbox, size_t *length) {
+    if (!read_message(mailbox, length)) return 0;
     expect("release", csengadrul_release(state, sizeof state), CSENGADRUL_DONE);
     return 1;
 }
@@ -97,46 +104,37 @@ static void send(uint32_t mailbox, const uint8_t *message, size_t length) {
     expect("send", answer, CSENGADRUL_DONE);
 }
 
-static void print(const uint8_t *text, size_t length) {
-    if (printed == LINES || length >= LINE_SIZE) fail("printer", "that is no line of the page");
-    memcpy(paper[printed], text, length);
-    if (printf("%s\n", paper[printed]) < 0 || fflush(stdout) != 0) fail("printer", "no paper");
-    printed++;
+static void print(const uint8_t *line, size_t length) {
+    if (printed + length >= sizeof paper) fail("printer", "that is no line of the page");
+    memcpy(paper + printed, line, length);
+    if (printf("%s", paper + printed) < 0 || fflush(stdout) != 0) fail("printer", "no paper");
+    printed += length;
 }
 
-/* Prints a line and asks for another. One that is on paper already, which may come
- * again after a new start, is passed over. */
+/* Prints the first line that is not on paper. The page stays in hand until all are: a
+ * new printer, which gets it again, goes on where the stopped one was. */
 static void printer_step(void) {
-    size_t length;
-    if (!take_message(PRINTER, &length) || room[0] != printed) return;
-    print(room + 1, length - 1);
-    expect("signal", csengadrul_signal(state, sizeof state, NEED), CSENGADRUL_DONE);
+    size_t length, end = printed;
+    if (!read_message(PRINTER, &length)) return;
+    while (end < length && room[end] != '\n') end++;
+    if (end < length) print(room + printed, end + 1 - printed);
+    else expect("release", csengadrul_release(state, sizeof state), CSENGADRUL_DONE);
 }
 
-static void send_line(size_t number) {
-    uint8_t message[1 + LINE_SIZE];
-    size_t length = strlen(page[number].text);
-    message[0] = (uint8_t)number;
-    memcpy(message + 1, page[number].text, length);
-    send(PRINTER, message, 1 + length);
-}
-
-/* When the printer needs a line, recalls and sends the first that is not on paper.
- * So the one that a stopped printer had in its hand goes to the new printer. */
+/* When the printer needs the page, sends it whole, and before the first time the
+ * settings. So what a stopped printer had in its hand goes to the new printer. */
 static void rider_step(void) {
-    static enum { WAIT, RECALL, SEND } next = WAIT;
-    static size_t number;
+    static enum { WAIT, SEND } next = WAIT;
+    static size_t line;
     if (next == WAIT) {
-        next = RECALL;
-        expect("wait", csengadrul_wait(state, sizeof state, NEED), CSENGADRUL_WAITS);
-    } else if (next == RECALL) {
         next = SEND;
-        number = printed;
-        if (number == LINES) expect("end", csengadrul_end(state, sizeof state), CSENGADRUL_DONE);
-        else if (page[number].setting[CHANNEL] != 0) send(PREAMP, page[number].setting, SETTING_SIZE);
+        expect("wait", csengadrul_wait(state, sizeof state, NEED), CSENGADRUL_WAITS);
+    } else if (line < LINES) {
+        const uint8_t *setting = page[line++].setting;
+        if (setting[CHANNEL] != 0) send(PREAMP, setting, SETTING_SIZE);
     } else {
         next = WAIT;
-        send_line(number);
+        send(PRINTER, (const uint8_t *)text, strlen(text));
     }
 }
 
@@ -183,6 +181,8 @@ static void start_printer(void) {
 }
 
 static void power_on(void) {
+    size_t i;
+    for (i = 0; i < LINES; i++) memcpy(text + strlen(text), page[i].text, strlen(page[i].text));
     expect("fresh", csengadrul_fresh_slice(state, sizeof state, SLICE), CSENGADRUL_DONE);
     expect("mailbox", csengadrul_mailbox(state, sizeof state, METERS, METER_QUEUE, CSENGADRUL_DROPS), CSENGADRUL_DONE);
     memset(preamp, 1, sizeof preamp); /* 48 V on everywhere, as the last show left it */
@@ -199,11 +199,11 @@ static const csengadrul_row *listing(void) {
 }
 
 static void operate(unsigned turn) {
-    if (stopped_since == 0 && printed == LINES / 2 && listing()[CSENGADRUL_NUMBER(printer)].full) {
+    if (stopped_since == 0 && printed >= strlen(text) / 2 && listing()[CSENGADRUL_NUMBER(printer)].full) {
         expect("stop", csengadrul_stop(state, sizeof state, printer), CSENGADRUL_DONE);
         printer = 0;
         stopped_since = turn;
-        fprintf(stderr, "rack: printer stopped with a line in its hand\n");
+        fprintf(stderr, "rack: printer stopped with the page in its hand\n");
     } else if (printer == 0 && turn == stopped_since + STOPPED_TURNS) {
         start_printer();
         fprintf(stderr, "rack: printer started again\n");
@@ -222,7 +222,7 @@ static uint32_t sum_of_state(void) {
     return sum;
 }
 
-static void drain(void) { /* where no buffer is free the next turn goes on with it */
+static void drain(void) { /* where too few buffers are free the next turn goes on with it */
     uint32_t code = ring_drain(&handlers, state, sizeof state, store, sizeof store);
     if (code != CSENGADRUL_DONE && code != CSENGADRUL_NO_BUFFER) fail("ring", csengadrul_code_text(code));
 }
@@ -232,7 +232,7 @@ static uint32_t running(void) { /* the same number as in the last answer */
 }
 
 static int is_at_rest(void) {
-    return printed == LINES && running() == 0 && handlers.put == handlers.taken;
+    return printed == strlen(text) && running() == 0 && handlers.put == handlers.taken;
 }
 
 static void check(int holds, const char *what) {
@@ -244,9 +244,9 @@ static void check_all(void) {
     size_t i;
     for (i = 0; i < CSENGADRUL_PROCESSES; i++) check(!rows[i].full, "no hand is full");
     for (i = 0; i < 4; i++) check(state[CSENGADRUL_OFFSET_FREE_BITS + i] == 0xff, "every buffer is free");
+    check(strcmp(paper, text) == 0, "every line is on paper, whole");
     for (i = 0; i < LINES; i++) {
         const uint8_t *setting = page[i].setting, *set = preamp[setting[CHANNEL]];
-        check(strcmp(paper[i], page[i].text) == 0, "every line is on paper, whole");
         check(setting[CHANNEL] == 0 || memcmp(set, setting, SETTING_SIZE) == 0, "each preamp is set as the page says");
     }
     check(preamp[14][PHANTOM] == 0, "no phantom power on 14");

@@ -13,7 +13,7 @@
  *   1 byte    0, or what went wrong: bits 0 to 4 for a guard byte beside an area that changed,
  *             bit 6 for a state area of another length that changed, bit 7 for a message that changed
  *   1 byte    REPLY, for whoever reads to know that both are in step
- *   508 bytes the state area
+ *   540 bytes the state area
  *   4 bytes   the first byte of the store that changed, and how many from there to the last one
  *             then these bytes
  *             then the whole room, for a read, the whole table, for a listing, or kind, which and ahead, for a why
@@ -30,7 +30,7 @@
 #define REPLY 0xc5
 #define ROOM_BYTE 0x5c
 #define ROW_BYTE 0xee
-#define LONGEST 4096
+#define LONGEST 8000 /* bytes of an area, or rows: so many fit into a page of lend.c, with the guard */
 
 static uint8_t state[LONGEST]; /* the state area, and what is behind it where a fresh start is told more */
 static uint8_t store[CSENGADRUL_STORE_SIZE];

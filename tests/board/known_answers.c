@@ -1,244 +1,19 @@
 /* The board's calls with answers that are known beforehand: the samples of document 01, fresh starts
  * with every slice, every code, every kind of reason, names that go stale and names that return, mailboxes
- * of every capacity, those that refuse and those that drop, and areas of every kind of length. Everything
- * is done twice, with the areas against the end of their pages and against the start. What must stay as it
- * is is compared byte for byte. */
-#include "lend.h"
+ * of every capacity, those that refuse and those that drop, areas of every kind of length, and messages in
+ * several buffers (pages.c). Everything is done twice, with the areas against the end of their pages and
+ * against the start. What must stay as it is is compared byte for byte. */
+#include "expect.h"
 
 #include <stdio.h>
 #include <string.h>
 
 #define MOST ((size_t)-1)
 #define HUGE_LENGTH ((size_t)1 << 40)
-#define STACK_LIMIT 4096
+#define STACK_LIMIT 4096 /* bytes: what docs/BOARD.md tells firmware to keep for a call */
 /* A call works on a copy of the state, so that a refusal changes nothing, and returns to its caller. */
 #define STACK_LEAST (CSENGADRUL_STATE_SIZE + sizeof(void *))
-#define TABLE_ROWS (2 * CSENGADRUL_PROCESSES)
 #define ROW_BYTE 0xee
-#define SLICE 3 /* ticks of a full slice, as document 01 has it */
-#define NONE CSENGADRUL_BUFFERS /* no buffer */
-
-static uint8_t state[CSENGADRUL_STATE_SIZE + 1];
-static uint8_t store[CSENGADRUL_STORE_SIZE + 1];
-static uint8_t message[CSENGADRUL_MESSAGE_SIZE + 1];
-static uint8_t room[CSENGADRUL_MESSAGE_SIZE + 8];
-static csengadrul_row rows[TABLE_ROWS];
-
-static uint8_t state_before[sizeof state];
-static uint8_t store_before[sizeof store];
-static uint8_t message_before[sizeof message];
-static uint8_t room_before[sizeof room];
-
-static area areas[KINDS];
-static enum lies side;
-static unsigned passed, failed;
-static unsigned long codes_seen;
-static uint8_t births[CSENGADRUL_PROCESSES]; /* how often each number was born, as document 02 counts */
-static size_t dropped = NONE;                /* the buffer whose message the send at hand is to drop */
-
-static void count(int good, const char *what) {
-    if (good) {
-        passed++;
-        return;
-    }
-    failed++;
-    printf("not so: %s (areas against the %s)\n", what, side == AT_THE_END ? "end" : "start");
-}
-
-static void lay(enum kind kind, enum lies lies, size_t told, size_t bytes) {
-    areas[kind].lies = lies;
-    areas[kind].told = told;
-    areas[kind].bytes = bytes;
-}
-
-/* All areas as firmware lends them. */
-static void usual(void) {
-    lay(STATE, side, CSENGADRUL_STATE_SIZE, CSENGADRUL_STATE_SIZE);
-    lay(STORE, side, CSENGADRUL_STORE_SIZE, CSENGADRUL_STORE_SIZE);
-    lay(MESSAGE, side, 3, 3);
-    lay(ROOM, side, CSENGADRUL_MESSAGE_SIZE, CSENGADRUL_MESSAGE_SIZE);
-    lay(ROWS, side, CSENGADRUL_PROCESSES, CSENGADRUL_PROCESSES * sizeof(csengadrul_row));
-    areas[STATE].content = state;
-    areas[STORE].content = store;
-    areas[MESSAGE].content = message;
-    areas[ROOM].content = room;
-    areas[ROWS].content = (uint8_t *)rows;
-}
-
-static int is_free(const uint8_t *image, size_t buffer) {
-    return image[CSENGADRUL_OFFSET_FREE_BITS + buffer / 8] >> (buffer % 8) & 1;
-}
-
-/* The buffer that a send takes: what it drops is free by then. */
-static size_t lowest_free_buffer(const uint8_t *image) {
-    size_t b = 0;
-    while (b < CSENGADRUL_BUFFERS && b != dropped && !is_free(image, b)) b++;
-    return b;
-}
-
-/* A send writes the message's bytes at the start of the lowest free buffer, and no other byte. */
-static int sent_well(void) {
-    size_t at = CSENGADRUL_MESSAGE_SIZE * lowest_free_buffer(state_before), length = areas[MESSAGE].told;
-    if (at + length > CSENGADRUL_STORE_SIZE) return 0;
-    memcpy(store_before + at, message, length);
-    return memcmp(store, store_before, sizeof store) == 0;
-}
-
-/* A read writes the first bytes of the room, as many as the message has, and no other. */
-static int read_well(size_t length) {
-    if (length > areas[ROOM].bytes) return 0;
-    return memcmp(room + length, room_before + length, areas[ROOM].bytes - length) == 0;
-}
-
-/* A mailbox gets its capacity and its mode, and no other byte of the state changes. */
-static int set_well(numbers given) {
-    if (given.number >= CSENGADRUL_MAILBOXES) return 0;
-    state_before[CSENGADRUL_OFFSET_CAPACITY + given.number] = (uint8_t)given.capacity;
-    state_before[CSENGADRUL_OFFSET_MODE + given.number] = (uint8_t)given.mode;
-    return memcmp(state, state_before, sizeof state) == 0;
-}
-
-/* The slice, capacities and modes are as they were: the last bytes of the state. */
-static int settings_stay(void) {
-    return memcmp(state + CSENGADRUL_OFFSET_SLICE, state_before + CSENGADRUL_OFFSET_SLICE,
-                  CSENGADRUL_STATE_SIZE - CSENGADRUL_OFFSET_SLICE) == 0;
-}
-
-static int is_reason(const csengadrul_reason *r, uint32_t kind, uint32_t which, uint32_t ahead) {
-    return r->kind == kind && r->which == which && r->ahead == ahead;
-}
-
-/* What the call may have changed, by its code. A refused question has zeros for its reason. */
-static int kept(enum call call, numbers given, const outcome *o) {
-    uint32_t code = o->answer.code;
-    if (code != CSENGADRUL_DONE && code != CSENGADRUL_WAITS)
-        return o->changed == 0 && (call != WHY || is_reason(&o->reason, 0, 0, 0));
-    if (memcmp(message, message_before, sizeof message) != 0) return 0;
-    switch (call) {
-    case SEND: return sent_well() && settings_stay();
-    case READ: return (o->changed & ~(1u << ROOM)) == 0 && read_well(o->answer.number);
-    case LISTING: return (o->changed & ~(1u << ROWS)) == 0;
-    case WHY: return o->changed == 0;
-    case MAILBOX: return set_well(given);
-    case FRESH:
-    case FRESH_SLICE: return 1;
-    default: return settings_stay();
-    }
-}
-
-/* Makes a call and counts whether it answers this, and touches nothing that it must not. */
-static outcome expect_of(const char *what, enum call call, numbers given, uint32_t code, uint32_t number, uint32_t running) {
-    outcome o;
-    memcpy(state_before, state, sizeof state);
-    if (call == SEND) memcpy(store_before, store, sizeof store);
-    memcpy(message_before, message, sizeof message);
-    memcpy(room_before, room, sizeof room);
-    o = lend(call, given, areas);
-    if (o.answer.code < 64) codes_seen |= 1ul << o.answer.code;
-    if ((call == FRESH || call == FRESH_SLICE) && code == CSENGADRUL_DONE) memset(births, 0, sizeof births);
-    if (o.answer.code != code || o.answer.number != number || o.answer.running != running)
-        printf("%s: answer %lu %lu %lu, expected %lu %lu %lu\n", what, (unsigned long)o.answer.code,
-               (unsigned long)o.answer.number, (unsigned long)o.answer.running, (unsigned long)code,
-               (unsigned long)number, (unsigned long)running);
-    if (o.escaped) printf("%s: a guard byte changed, areas %#x\n", what, o.escaped);
-    count(o.answer.code == code && o.answer.number == number && o.answer.running == running && !o.escaped &&
-              kept(call, given, &o),
-          what);
-    return o;
-}
-
-/* The same of a call with one number. A mailbox is set to what it is at the start. */
-static outcome expect(const char *what, enum call call, uint32_t given, uint32_t code, uint32_t number, uint32_t running) {
-    numbers one;
-    one.number = given;
-    one.capacity = 8;
-    one.mode = 0;
-    return expect_of(what, call, one, code, number, running);
-}
-
-static void start(uint32_t slice) {
-    usual();
-    expect("a fresh kernel", FRESH_SLICE, slice, CSENGADRUL_DONE, 0, 0);
-}
-
-static void fresh(void) {
-    start(SLICE);
-}
-
-/* The name that a number has, in use or not. */
-static uint32_t name(uint32_t number) {
-    return number + 256 * (uint32_t)births[number];
-}
-
-/* This number is born. */
-static void create(uint32_t class, uint32_t number, uint32_t running) {
-    births[number]++;
-    expect("create", CREATE, class, CSENGADRUL_DONE, name(number), running);
-}
-
-static void stop(uint32_t number, uint32_t running) {
-    expect("stop", STOP, name(number), CSENGADRUL_DONE, 0, running);
-}
-
-static void tick(uint32_t running) {
-    expect("tick", TICK, 0, CSENGADRUL_DONE, 0, running);
-}
-
-/* A message of this length, each byte another than its neighbours. */
-static void write_message(size_t length, unsigned seed) {
-    size_t i;
-    for (i = 0; i < sizeof message; i++) message[i] = (uint8_t)(seed + 7 * i + i / 256);
-    lay(MESSAGE, side, length, length);
-}
-
-static void send(uint32_t mailbox, size_t length, uint32_t code, uint32_t running) {
-    write_message(length, mailbox + (unsigned)length);
-    expect("send", SEND, mailbox, code, 0, running);
-}
-
-/* Writes into the state before a call that a buffer is free, or has a message of this length. */
-static void put_buffer(size_t buffer, int free, size_t length) {
-    uint8_t *bits = &state_before[CSENGADRUL_OFFSET_FREE_BITS + buffer / 8], bit = (uint8_t)(1u << buffer % 8);
-    *bits = (uint8_t)(free ? *bits | bit : *bits & ~bit);
-    state_before[CSENGADRUL_OFFSET_LENGTH + 2 * buffer] = (uint8_t)length;
-    state_before[CSENGADRUL_OFFSET_LENGTH + 2 * buffer + 1] = (uint8_t)(length >> 8);
-}
-
-/* Where nobody waits, a send changes nothing beside the queues of mailboxes but what stands of its buffer, and of the
- * one whose message it drops. */
-static int only_buffers_changed(size_t length) {
-    size_t taken = lowest_free_buffer(state_before);
-    put_buffer(dropped, 1, 0);
-    put_buffer(taken, 0, length);
-    memcpy(state_before + CSENGADRUL_OFFSET_MESSAGE_NEXT, state + CSENGADRUL_OFFSET_MESSAGE_NEXT,
-           CSENGADRUL_OFFSET_HAND - CSENGADRUL_OFFSET_MESSAGE_NEXT);
-    return memcmp(state, state_before, sizeof state) == 0;
-}
-
-/* A send that drops the message in this buffer first. */
-static void send_dropping(uint32_t mailbox, size_t length, size_t buffer, uint32_t running) {
-    dropped = buffer;
-    send(mailbox, length, CSENGADRUL_DONE, running);
-    count(only_buffers_changed(length), "a drop changes no more than mailboxes and buffers");
-    dropped = NONE;
-}
-
-/* The caller takes the first message of a mailbox, of this length, and is done with it. */
-static void fetch(uint32_t mailbox, size_t length, uint32_t running) {
-    expect("receive", RECEIVE, mailbox, CSENGADRUL_DONE, (uint32_t)length, running);
-    expect("read", READ, 0, CSENGADRUL_DONE, (uint32_t)length, running);
-    write_message(length, mailbox + (unsigned)length);
-    count(memcmp(room, message, length) == 0, "it is the message that was sent");
-    expect("release", RELEASE, 0, CSENGADRUL_DONE, 0, running);
-}
-
-static void set(uint32_t mailbox, uint32_t capacity, uint32_t mode, uint32_t code, uint32_t running) {
-    numbers given;
-    given.number = mailbox;
-    given.capacity = capacity;
-    given.mode = mode;
-    expect_of("mailbox", MAILBOX, given, code, 0, running);
-}
 
 static void sample_of_the_paper(void) {
     fresh();
@@ -360,8 +135,8 @@ static void refusals_in_order(void) {
     lay(ROOM, side, 0, 0);
     expect("8 before 9", READ, 0, CSENGADRUL_HAND_EMPTY, 0, 1);
     usual();
-    send(16, 513, CSENGADRUL_NO_MAILBOX, 1);
-    send(15, 513, CSENGADRUL_LONG_MESSAGE, 1);
+    send(16, 4097, CSENGADRUL_NO_MAILBOX, 1);
+    send(15, 4097, CSENGADRUL_LONG_MESSAGE, 1);
     send(15, 512, CSENGADRUL_DONE, 1);
     expect("receive", RECEIVE, 15, CSENGADRUL_DONE, 512, 1);
     expect("3 before 7", RECEIVE, 16, CSENGADRUL_NO_MAILBOX, 0, 1);
@@ -425,6 +200,7 @@ static void other_lengths(void (*lent)(enum lies, size_t, size_t), size_t right)
     lent(OUT_OF_REACH, 0, 0);
     lent(side, 1, 1);
     lent(side, 476, 476); /* the state of version 3 */
+    lent(side, 508, 508); /* the state of version 4 */
     lent(side, right - 1, right - 1);
     lent(side, right + 1, right + 1);
     lent(OUT_OF_REACH, HUGE_LENGTH, 0);
@@ -453,10 +229,14 @@ static void message_lengths(void) {
     message_of(side, 1, 1, CSENGADRUL_DONE);
     message_of(side, 511, 511, CSENGADRUL_DONE);
     message_of(side, 512, 512, CSENGADRUL_DONE);
-    message_of(side, 513, 513, CSENGADRUL_LONG_MESSAGE);
-    message_of(OUT_OF_REACH, 513, 0, CSENGADRUL_LONG_MESSAGE);
+    message_of(side, 513, 513, CSENGADRUL_DONE);
+    message_of(side, 4095, 4095, CSENGADRUL_DONE);
+    message_of(side, 4096, 4096, CSENGADRUL_DONE);
+    message_of(side, 4097, 4097, CSENGADRUL_LONG_MESSAGE);
+    message_of(OUT_OF_REACH, 4097, 0, CSENGADRUL_LONG_MESSAGE);
     message_of(OUT_OF_REACH, HUGE_LENGTH, 0, CSENGADRUL_LONG_MESSAGE);
     message_of(OUT_OF_REACH, HUGE_LENGTH + 3, 0, CSENGADRUL_LONG_MESSAGE);
+    message_of(OUT_OF_REACH, 65536 + 3, 0, CSENGADRUL_LONG_MESSAGE);
     message_of(OUT_OF_REACH, MOST, 0, CSENGADRUL_LONG_MESSAGE);
     message_of(NULL_POINTER, MOST, 0, CSENGADRUL_LONG_MESSAGE);
     usual();
@@ -505,13 +285,6 @@ static void table_of(enum lies lies, size_t told, size_t there, uint32_t code) {
     lay(ROWS, lies, told, there * sizeof *rows);
     expect("listing", LISTING, 0, code, code == CSENGADRUL_DONE ? 0 : CSENGADRUL_PROCESSES, 1);
     count(rows_stay(code == CSENGADRUL_DONE ? CSENGADRUL_PROCESSES : 0), "rows that are no process's stay");
-}
-
-static int row_is(size_t process, unsigned place, unsigned which, unsigned position, unsigned class, unsigned ticks,
-                  unsigned full, unsigned length) {
-    const csengadrul_row *r = &rows[process];
-    return r->place == place && r->which == which && r->position == position && r->class_ == class &&
-           r->ticks == ticks && r->full == full && r->length == length;
 }
 
 static void listing(void) {
@@ -809,8 +582,8 @@ static void every_size(void) {
     create(4, 1, 1);
     create(4, 2, 1);
     for (m = 0; m < 16; m++) set(m, 2 * m + 1, m % 2, CSENGADRUL_DONE, 1);
-    for (m = 0; m < 16; m++) there += state[476 + m] == 2 * m + 1 && state[492 + m] == m % 2;
-    count(there == 16, "the state has capacities at 476 and modes at 492");
+    for (m = 0; m < 16; m++) there += state[508 + m] == 2 * m + 1 && state[524 + m] == m % 2;
+    count(there == 16, "the state has capacities at 508 and modes at 524");
     tick(1);
     set(0, 32, 0, CSENGADRUL_DONE, 1);
     tick(1);
@@ -871,7 +644,7 @@ static void refusing_mailbox(uint32_t capacity) {
     set(9, capacity, 0, CSENGADRUL_DONE, 1);
     for (i = 0; i < capacity; i++) send(9, 10 + i, CSENGADRUL_DONE, 1);
     send(9, 5, CSENGADRUL_MAILBOX_FULL, 1);
-    send(9, 513, CSENGADRUL_LONG_MESSAGE, 1);
+    send(9, 4097, CSENGADRUL_LONG_MESSAGE, 1);
     send(8, 5, capacity < 32 ? CSENGADRUL_DONE : CSENGADRUL_NO_BUFFER, 1);
     fetch(9, 10, 1);
     send(9, 10 + capacity, CSENGADRUL_DONE, 1);
@@ -888,23 +661,10 @@ static void dropping_mailbox(uint32_t capacity) {
     create(2, 1, 1);
     set(9, capacity, 1, CSENGADRUL_DONE, 1);
     for (i = 0; i < capacity; i++) send(9, 10 + i, CSENGADRUL_DONE, 1);
-    for (; i < sends; i++) send_dropping(9, 10 + i, i % capacity, 1);
+    for (; i < sends; i++) send_dropping(9, 10 + i, 1u << i % capacity, 1);
     for (i = sends - capacity; i < sends; i++) fetch(9, 10 + i, 1);
     expect("nothing else is left", RECEIVE, 9, CSENGADRUL_WAITS, 0, 0);
 }
-
-/* Counts whether the messages of a mailbox lie in these buffers, the oldest first, by the tables of docs/IMAGE.md. */
-static void queue_is(uint32_t mailbox, const uint8_t *buffers, size_t messages) {
-    const uint8_t *next = state + CSENGADRUL_OFFSET_MESSAGE_NEXT, *before = state + CSENGADRUL_OFFSET_MESSAGE_BEFORE;
-    size_t head = 32 + mailbox, at = head, i, wrong = 0;
-    for (i = 0; i <= messages; i++) {
-        size_t then = i < messages ? buffers[i] : head;
-        wrong += next[at] != then || before[then] != at || (then < head && is_free(state, then));
-        at = then;
-    }
-    count(!wrong, "the messages lie in these buffers, in this order");
-}
-#define QUEUE_IS(mailbox, buffers) queue_is(mailbox, buffers, sizeof buffers)
 
 /* The lowest free buffer takes the message. Below the dropped one 0 is free, then 1, then 2; at last it is the lowest. */
 static void lowest_after_a_drop(void) {
@@ -921,13 +681,13 @@ static void lowest_after_a_drop(void) {
     send(5, 13, CSENGADRUL_DONE, 1);
     fetch(4, 8, 1);
     QUEUE_IS(5, at_first);
-    send_dropping(5, 14, 1, 1);
+    send_dropping(5, 14, 1u << 1, 1);
     QUEUE_IS(5, in_0);
-    send_dropping(5, 15, 2, 1);
+    send_dropping(5, 15, 1u << 2, 1);
     QUEUE_IS(5, in_1);
-    send_dropping(5, 16, 3, 1);
+    send_dropping(5, 16, 1u << 3, 1);
     QUEUE_IS(5, in_2);
-    send_dropping(5, 17, 0, 1);
+    send_dropping(5, 17, 1u << 0, 1);
     QUEUE_IS(5, in_0_again);
     fetch(5, 15, 1);
     fetch(5, 16, 1);
@@ -962,20 +722,20 @@ static void drops_with_all_in_use(void) {
     send(1, 5, CSENGADRUL_NO_BUFFER, 1);
     send(7, 5, CSENGADRUL_NO_BUFFER, 1);
     send(2, 5, CSENGADRUL_MAILBOX_FULL, 1);
-    send(5, 513, CSENGADRUL_LONG_MESSAGE, 1);
+    send(5, 4097, CSENGADRUL_LONG_MESSAGE, 1);
     lay(STORE, side, 16383, 16383);
     expect("15 of a mailbox that would drop", SEND, 5, CSENGADRUL_OTHER_STORE, 0, 1);
     usual();
     QUEUE_IS(5, of_5);
-    send_dropping(5, 24, 0, 1);
+    send_dropping(5, 24, 1u << 0, 1);
     QUEUE_IS(5, then_of_5);
-    for (i = 1; i < 6; i++) send_dropping(5, 24 + i, i % 4, 1);
+    for (i = 1; i < 6; i++) send_dropping(5, 24 + i, 1u << i % 4, 1);
     QUEUE_IS(5, last_of_5);
     QUEUE_IS(6, of_6);
     QUEUE_IS(2, of_2);
     expect("wait at 4 for a message", RECEIVE, 4, CSENGADRUL_WAITS, 0, 0);
     send(4, 5, CSENGADRUL_NO_BUFFER, 0);
-    send_dropping(5, 30, 2, 0);
+    send_dropping(5, 30, 1u << 2, 0);
     why(1, 0, CSENGADRUL_WHY_MAILBOX, 4, 0);
     create(1, 2, 2);
     for (i = 27; i <= 30; i++) fetch(5, i, 2);
@@ -996,7 +756,7 @@ static void newest_alone(void) {
     send(0, 7, CSENGADRUL_DONE, 1);
     expect("receive", RECEIVE, 0, CSENGADRUL_DONE, 7, 1);
     send(0, 100, CSENGADRUL_DONE, 1);
-    for (i = 0; i < sizeof lengths / sizeof *lengths; i++) send_dropping(0, lengths[i], 1, 1);
+    for (i = 0; i < sizeof lengths / sizeof *lengths; i++) send_dropping(0, lengths[i], 1u << 1, 1);
     expect("read", READ, 0, CSENGADRUL_DONE, 7, 1);
     write_message(7, 7);
     count(memcmp(room, message, 7) == 0, "the message in hand is the one that was received");
@@ -1004,7 +764,7 @@ static void newest_alone(void) {
     fetch(0, 3, 1);
     for (i = 0; i < sizeof lengths / sizeof *lengths; i++) {
         send(0, 9, CSENGADRUL_DONE, 1);
-        send_dropping(0, lengths[i], 0, 1);
+        send_dropping(0, lengths[i], 1u << 0, 1);
         fetch(0, lengths[i], 1);
     }
 }
@@ -1020,7 +780,7 @@ static void waiters_at_a_dropping_mailbox(void) {
     send(11, 3, CSENGADRUL_DONE, 1);
     send(11, 4, CSENGADRUL_DONE, 2);
     send(11, 5, CSENGADRUL_DONE, 2);
-    send_dropping(11, 6, 2, 2);
+    send_dropping(11, 6, 1u << 2, 2);
     expect("read", READ, 0, CSENGADRUL_DONE, 4, 2);
     expect("end", END, 0, CSENGADRUL_DONE, 0, 1);
     expect("read", READ, 0, CSENGADRUL_DONE, 3, 1);
@@ -1031,7 +791,7 @@ static void waiters_at_a_dropping_mailbox(void) {
 /* Whether every mailbox takes 8 and refuses. */
 static int as_at_the_start(void) {
     size_t m, there = 0;
-    for (m = 0; m < 16; m++) there += state[476 + m] == 8 && state[492 + m] == 0;
+    for (m = 0; m < 16; m++) there += state[508 + m] == 8 && state[524 + m] == 0;
     return there == 16;
 }
 
@@ -1053,22 +813,14 @@ static void sizes_and_fresh_starts(void) {
     send(3, 8, CSENGADRUL_MAILBOX_FULL, 0);
 }
 
-/* A call that only looks at the state, with another byte in it, which is put back. */
-static void with_byte(size_t at, uint8_t byte, uint32_t code, uint32_t running) {
-    uint8_t was = state[at];
-    state[at] = byte;
-    expect("another byte in the state", LISTING, 0, code, 0, running);
-    state[at] = was;
-}
-
 /* 1 to 32 alone are a capacity, 0 and 1 alone a mode. */
 static void damaged_sizes(void) {
     uint32_t m, byte;
     fresh();
     for (m = 0; m < 16; m++)
         for (byte = 0; byte < 256; byte++) {
-            with_byte(476 + m, (uint8_t)byte, byte >= 1 && byte <= 32 ? CSENGADRUL_DONE : CSENGADRUL_NOT_SOUND, 0);
-            with_byte(492 + m, (uint8_t)byte, byte <= 1 ? CSENGADRUL_DONE : CSENGADRUL_NOT_SOUND, 0);
+            with_byte(508 + m, (uint8_t)byte, byte >= 1 && byte <= 32 ? CSENGADRUL_DONE : CSENGADRUL_NOT_SOUND, 0);
+            with_byte(524 + m, (uint8_t)byte, byte <= 1 ? CSENGADRUL_DONE : CSENGADRUL_NOT_SOUND, 0);
         }
 }
 
@@ -1084,8 +836,8 @@ static void damaged_fillings(void) {
             set((m + 15) % 16, 32, 0, CSENGADRUL_DONE, 0);
             for (i = 0; i < fillings[f]; i++) send(m, i, CSENGADRUL_DONE, 0);
             for (c = 1; c <= 32; c++)
-                with_byte(476 + m, (uint8_t)c, c >= fillings[f] ? CSENGADRUL_DONE : CSENGADRUL_NOT_SOUND, 0);
-            with_byte(492 + m, (uint8_t)!(f % 2), CSENGADRUL_DONE, 0);
+                with_byte(508 + m, (uint8_t)c, c >= fillings[f] ? CSENGADRUL_DONE : CSENGADRUL_NOT_SOUND, 0);
+            with_byte(524 + m, (uint8_t)!(f % 2), CSENGADRUL_DONE, 0);
         }
 }
 
@@ -1193,6 +945,9 @@ static void damaged_for_each_call(void) {
         state[CSENGADRUL_OFFSET_CAPACITY + 15] = 8;
         state[CSENGADRUL_OFFSET_MODE] = 2;
         expect("a state in which a mailbox neither refuses nor drops", call, 1, CSENGADRUL_NOT_SOUND, 0, 0);
+        state[CSENGADRUL_OFFSET_MODE] = 0;
+        state[CSENGADRUL_OFFSET_CHAIN + 31] = 30;
+        expect("a state in which a free buffer leads to another", call, 1, CSENGADRUL_NOT_SOUND, 0, 0);
         memset(state, 0, sizeof state);
         expect("a state of zeros", call, 1, CSENGADRUL_NOT_SOUND, 0, 0);
         memset(state, 0xff, sizeof state);
@@ -1234,6 +989,8 @@ static void all(void) {
     rooms_for(1);
     rooms_for(3);
     rooms_for(512);
+    rooms_for(513);
+    rooms_for(4096);
     listing();
     reasons_of_waiters();
     reasons_of_the_ready();
@@ -1245,6 +1002,7 @@ static void all(void) {
     any_births();
     slices_at_work();
     sizes();
+    pages();
     fresh_images();
     refused_slices();
     damaged_slices();

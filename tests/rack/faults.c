@@ -2,8 +2,8 @@
  * -Dcsengadrul_read=faulty_read or the like, and links it with this file. */
 #include "ring.h"
 
-#define CUT 16 /* bytes that are left of a message */
-#define LOST 5 /* the send that is lost */
+#define CUT CSENGADRUL_BUFFER_SIZE /* bytes that are left of a message: those in its first buffer */
+#define LOST 20                    /* the send that is lost, when readings wait for nobody */
 #define STRAY (CSENGADRUL_OFFSET_COUNT + 2 * (CSENGADRUL_SEMAPHORES - 1)) /* in a sound state it may be anything */
 
 /* A long message is cut, and handed on as if it were whole. */

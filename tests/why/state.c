@@ -7,7 +7,7 @@
 #include <string.h>
 
 #define SCRIPT_SIZE 65536
-#define SENT_SIZE 600 /* bytes that a line of a script sends at most */
+#define SENT_SIZE 4200 /* bytes that a line of a script sends at most */
 #define SLICE_WORD "slice "
 #define S state, sizeof state
 #define STORE store, sizeof store

@@ -11,7 +11,7 @@ use kernel::Kernel;
 use reasons::Explained;
 
 // The bytes of a state area.
-pub const SIZE: usize = 508;
+pub const SIZE: usize = 540;
 
 const USUAL_SLICE: u32 = sizes::USUAL_SLICE as u32;
 

@@ -4,7 +4,7 @@ use Prim.Native.Nat.{ℕ}
 use Prim.Native.String.{String}
 use mathlib.Core.Path.{_≡_, refl}
 use mathlib.Core.List.{List, [], _∷_, map}
-use Rattle.lists.specs.Lists.{total, lowest}
+use Rattle.lists.specs.Lists.{total, lowest, those}
 use Rattle.plain.specs.Calls.{perform, refusals, step}
 use Rattle.plain.specs.Names.{raised, name, bare, names}
 use Rattle.plain.specs.Mailboxes.{mostQueued, noSize, busy, refuses, overflows, relieved}
@@ -12,7 +12,8 @@ use Rattle.plain.specs.Runs.{choose, chooseBelow, join, standDown, makeReady, g
 use Rattle.plain.specs.Sizes.{bufferSize, longest, highestCount}
 use Rattle.plain.specs.Listing.{queueOf}
 use Rattle.plain.specs.Start.{longestSlice, freshStart}
-use Rattle.plain.specs.State.{spots, held, freeProcess, freeBuffer}
+use Rattle.plain.specs.State.{spots, held, freeProcess, freeBuffers}
+use Rattle.plain.specs.Pages.{needed}
 use Rattle.plain.specs.Why.{reasonIn, reason, why}
 use Rattle.answers.specs.Answer.{digitsOf, decimal}
 use Rattle.answers.specs.Ascii.{ascii}
@@ -26,7 +27,7 @@ Lines = List (String × String)
 
 -- what is written for these lines, from the first on
 unfoldable pub shown : Lines → List (List ℕ)
-unfolding step refusals perform freshStart raised name bare names choose chooseBelow join standDown makeReady goTo remove halt spots total lowest held freeProcess freeBuffer mostQueued noSize busy refuses overflows relieved bufferSize longest highestCount longestSlice queueOf reasonIn reason why order digitsOf decimal words reasonLine
+unfolding step refusals perform freshStart raised name bare names choose chooseBelow join standDown makeReady goTo remove halt spots total lowest held freeProcess freeBuffers those needed mostQueued noSize busy refuses overflows relieved bufferSize longest highestCount longestSlice queueOf reasonIn reason why order digitsOf decimal words reasonLine
 shown l = replies atFirst (map (λ (x : String × String). ascii (x .0)) l)
 
 abbrev meant : Lines → List (List ℕ)

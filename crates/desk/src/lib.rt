@@ -3,11 +3,12 @@
 ghost use mathlib.Core.List.{List};
 ghost use mathlib.Core.Option.{none, some};
 ghost use mathlib.Core.Path.{_≡_};
-ghost use Prim.Native.Nat.{ℕ, _≤_};
-ghost use lib.ListN.{take};
+ghost use Prim.Native.Nat.{ℕ, _+_, _≤_};
+ghost use lib.ListN.{length};
 ghost use Rattle.plain.specs.Calls as Plain;
 ghost use Rattle.script.specs.Grammar.{does, why, slice, mostBytes, largestRoom};
 ghost use Rattle.script.specs.Request.{called};
+ghost use Rattle.script.specs.Spelled.{spelled};
 ghost use Rattle.kernel.specs.Promise.{Plainly};
 ghost use Rattle.desk.specs.Reply.{atFirst};
 ghost use Rattle.desk.specs.Line.{HoldsDesk, Turned, Line};
@@ -15,10 +16,11 @@ ghost use Rattle.desk.specs.Tell.{turnOf, Told};
 use kernel::Done;
 use kernel::Kernel;
 use kernel::Settings;
-use script::Request;
 use script::calls;
 use script::calls::Quiet;
 use script::calls::Word;
+use script::hex::MOST_BYTES;
+use script::hex::put_bytes;
 
 const LARGEST_ROOM: usize = calls::LARGEST_ROOM as usize;
 
@@ -88,13 +90,14 @@ fn tell(done: Done, out: &mut [u8]) -> Turn
     turned(state, length)
 }
 
-fn send(d: Desk, store: &mut [u8], m: u32, q: Request, out: &mut [u8]) -> Turn
-    requires { ⌜ q .length ≤ mostBytes ⌝ }
-    ensures { λ r. ⌜ Turned (some (does (Plain.send m (take (q .length) (q .bytes))))) (now (store .entry)) (now (out .entry)) d (now (store .exit)) (now (out .exit)) r ⌝ }
+// The pairs of hex spell the message.
+fn send(d: Desk, store: &mut [u8], m: u32, hex: &[u8], out: &mut [u8]) -> Turn
+    requires { ⌜ length (now hex) ≤ mostBytes + mostBytes ⌝ }
+    ensures { λ r. ⌜ Turned (some (does (Plain.send m (spelled (now (hex .entry)))))) (now (store .entry)) (now (out .entry)) d (now (store .exit)) (now (out .exit)) r ⌝ }
 {
+    let mut bytes = [0; MOST_BYTES];
+    let n = put_bytes(&mut bytes, hex);
     let k = d.state;
-    let bytes = q.bytes;
-    let n = q.length as usize;
     let done = k.send(store, m, &bytes[..n]);
     tell(done, out)
 }
@@ -158,8 +161,7 @@ fn start(d: Desk, n: u32, out: &mut [u8]) -> Turn
 pub fn line(d: Desk, store: &mut [u8], line: &[u8], out: &mut [u8]) -> Turn
     ensures { λ r. ⌜ Line (now (store .entry)) (now (line .entry)) (now (out .entry)) d (now (store .exit)) (now (out .exit)) r ⌝ }
 {
-    let q = script::request(line);
-    let word = q.word;
+    let word = script::request(line);
     match word {
         Word::Bad => bad(d, out),
         Word::Call(call) => {
@@ -167,7 +169,10 @@ pub fn line(d: Desk, store: &mut [u8], line: &[u8], out: &mut [u8]) -> Turn
             let done = called(k, call);
             tell(done, out)
         }
-        Word::Send(m) => send(d, store, m, q, out),
+        Word::Send(m, n) => {
+            let from = line.len() - 2 * n as usize;
+            send(d, store, m, &line[from..], out)
+        }
         Word::Read(n) => read(d, store, n, out),
         Word::Why(n) => why(d, n, out),
         Word::Slice(n) => start(d, n, out),

@@ -77,6 +77,6 @@ abbrev pub AnyChunks : Type 0
 AnyChunks = (o : Ongoing) (p store line₁ line₂ bytes written₁ written₂ store₁ store₂ : List ℕ) (d₁ d₂ : Desk) → HoldsLine p line₁ (o .held) → HoldsLine p line₂ (o .held)
     → Input o store line₁ bytes written₁ d₁ store₁ → Input o store line₂ bytes written₂ d₂ store₂ → SameEnd written₁ written₂ d₁ d₂ store₁ store₂
 
--- 4. "one over 1,300 bytes gives `bad` and changes nothing": it is one line, and what follows it is read as if it were not there, but that no later line is the first.
+-- 4. "one over 1,300 bytes gives `bad` and changes nothing", by request 6 one over 8,600: it is one line, and what follows it is read as if it were not there, but that no later line is the first.
 abbrev pub OneBad : Type 0
 OneBad = (t : Stand) (l c : List ℕ) → NoNewline l → longestLine < length l → replies t (linesOf (l ++ (newline ∷ c))) ≡ bad ∷ replies (later (t .state)) (linesOf c)

@@ -29,7 +29,7 @@ abbrev FitsBoxes : Boxes → Type 0
 FitsBoxes b = Array boxNodes FitsBid (b .next) × Array boxNodes FitsBid (b .prev)
 
 abbrev FitsMail : Mail → Type 0
-FitsMail m = (((FitsBoxes (m .boxes) × Array processes FitsBid (m .hand)) × U32 (m .full .0)) × Array buffers U16 (m .length)) × U32 (m .free .0)
+FitsMail m = ((((FitsBoxes (m .boxes) × Array processes FitsBid (m .hand)) × U32 (m .full .0)) × Array buffers U16 (m .length)) × U32 (m .free .0)) × Array buffers FitsBid (m .chain)
 
 abbrev FitsSettings : Settings → Type 0
 FitsSettings x = (U8 (x .slice) × Array mailboxes U8 (x .capacity)) × Array mailboxes U8 (x .mode)
@@ -57,9 +57,9 @@ procs-code =
 
 mail-code : Code mail mailLong FitsMail
 mail-code =
-    through (λ (m : Mail). ((((m .boxes, m .hand), m .full .0), m .length), m .free .0))
-    (λ t. record { boxes = t .0 .0 .0 .0; hand = t .0 .0 .0 .1; full = record { 0 = t .0 .0 .1 }; length = t .0 .1; free = record { 0 = t .1 } }) (λ t. refl) (λ m. refl)
-    (both (both (both (both boxes-code (array bid-code processes)) (le-code 4)) (array (le-code 2) buffers)) (le-code 4))
+    through (λ (m : Mail). (((((m .boxes, m .hand), m .full .0), m .length), m .free .0), m .chain))
+    (λ t. record { boxes = t .0 .0 .0 .0 .0; hand = t .0 .0 .0 .0 .1; full = record { 0 = t .0 .0 .0 .1 }; length = t .0 .0 .1; free = record { 0 = t .0 .1 }; chain = t .1 }) (λ t. refl) (λ m. refl)
+    (both (both (both (both (both boxes-code (array bid-code processes)) (le-code 4)) (array (le-code 2) buffers)) (le-code 4)) (array bid-code buffers))
 
 settings-code : Code settings settingsLong FitsSettings
 settings-code =
@@ -76,7 +76,7 @@ kernel-code =
 fits : (k : Kernel) → Sized k → FitsKernel k
 fits k s =
     let procs : FitsProcs (k .procs) = (((((s .running, s .class), s .ticks), (s .next, s .prev)), s .ready), s .unused) in
-    let mail : FitsMail (k .mail) = (((((s .box-next, s .box-prev), s .hand), s .full), s .lengths), s .free) in
+    let mail : FitsMail (k .mail) = ((((((s .box-next, s .box-prev), s .hand), s .full), s .lengths), s .free), s .chain) in
     ((((procs, mail), s .count), s .births), ((s .slice, s .capacity), s .mode))
 
 pub image-code : Code image size Sized
@@ -99,12 +99,13 @@ image-code = record {
           prev = procs .0 .0 .1 .1;
           ready = procs .0 .1;
           unused = procs .1;
-          box-next = mail .0 .0 .0 .0 .0;
-          box-prev = mail .0 .0 .0 .0 .1;
-          hand = mail .0 .0 .0 .1;
-          full = mail .0 .0 .1;
-          lengths = mail .0 .1;
-          free = mail .1;
+          box-next = mail .0 .0 .0 .0 .0 .0;
+          box-prev = mail .0 .0 .0 .0 .0 .1;
+          hand = mail .0 .0 .0 .0 .1;
+          full = mail .0 .0 .0 .1;
+          lengths = mail .0 .0 .1;
+          free = mail .0 .1;
+          chain = mail .1;
           count = f .0 .0 .1;
           births = f .0 .1;
           slice = f .1 .0 .0;

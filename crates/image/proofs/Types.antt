@@ -53,6 +53,7 @@ sized k vs p =
       full = mail .1 .1 .0 .1 .1 .0 .1;
       lengths = pairs buffers (k .mail .length) _ (mail .1 .1 .1 .0);
       free = mail .1 .1 .1 .1 .0 .1 .1 .0 .1;
+      chain = bids buffers (k .mail .chain) _ (mail .1 .1 .1 .1 .1 .0);
       count = pairs semaphores (k .count) _ (fields .1 .1 .0);
       births = bytes processes (k .births) _ (fields .1 .1 .1 .0);
       slice = settings .0 .1;

@@ -43,7 +43,7 @@ abbrev pub boxesLong : ℕ
 boxesLong = boxNodes + boxNodes
 
 abbrev pub mailLong : ℕ
-mailLong = boxesLong + processes + 4 + 2 * buffers + 4
+mailLong = boxesLong + processes + 4 + 2 * buffers + 4 + buffers
 
 -- the birth counts stand behind the counts, and the settings behind these: the slice, the capacity of each mailbox, and the mode of each
 abbrev pub birthsAt : ℕ
@@ -55,7 +55,7 @@ settingsAt = birthsAt + processes
 abbrev pub settingsLong : ℕ
 settingsLong = 1 + mailboxes + mailboxes
 
--- 508
+-- 540
 abbrev pub size : ℕ
 size = settingsAt + settingsLong
 
@@ -75,7 +75,7 @@ abbrev pub boxes : Boxes → List ℕ
 boxes b = each bid (b .next) ++ each bid (b .prev)
 
 abbrev pub mail : Mail → List ℕ
-mail m = boxes (m .boxes) ++ each bid (m .hand) ++ le 4 (m .full .0) ++ each (le 2) (m .length) ++ le 4 (m .free .0)
+mail m = boxes (m .boxes) ++ each bid (m .hand) ++ le 4 (m .full .0) ++ each (le 2) (m .length) ++ le 4 (m .free .0) ++ each bid (m .chain)
 
 abbrev pub settings : Settings → List ℕ
 settings x = byte (x .slice) ++ each byte (x .capacity) ++ each byte (x .mode)
@@ -111,6 +111,7 @@ pub record Sized (k : Kernel) : Type 0 where
   pub full : U32 (k .mail .full .0)
   pub lengths : Array buffers U16 (k .mail .length)
   pub free : U32 (k .mail .free .0)
+  pub chain : Array buffers (λ b. U8 (b .0)) (k .mail .chain)
   pub count : Array semaphores U16 (k .count)
   pub births : Array processes U8 (k .births)
   pub slice : U8 (k .settings .slice)
@@ -134,6 +135,7 @@ blank = record {
     full = record { 0 = 0 };
     length = replicate buffers 0;
     free = record { 0 = 0 };
+    chain = replicate buffers (record { 0 = 0 });
   };
   count = replicate semaphores 0;
   births = replicate processes 0;

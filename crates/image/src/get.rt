@@ -5,8 +5,8 @@ ghost use mathlib.Core.List.{[], _∷_};
 ghost use Prim.Native.Nat.{_*_};
 ghost use lib.ListN.{length};
 ghost use Rattle.image.specs.Bytes.{byte, le, each, Got};
-ghost use Rattle.plain.specs.Sizes.{processes};
-ghost use Rattle.image.specs.Image.{nodes, boxNodes, procsLong, mailLong, settingsAt, settingsLong, pid, bid, procs, mail, settings};
+ghost use Rattle.plain.specs.Sizes.{buffers};
+ghost use Rattle.image.specs.Image.{nodes, boxNodes, procsLong, boxesLong, mailLong, settingsAt, settingsLong, pid, bid, procs, boxes, mail, settings};
 use crate::layout;
 use crate::layout::BOX_NODES;
 use crate::layout::NODES;
@@ -15,6 +15,7 @@ use kernel::Settings;
 use mail::Mail;
 use procs::Procs;
 use queues::Queues;
+use sizes::BUFFERS;
 use sizes::Bid;
 use sizes::Bids;
 use sizes::MAILBOXES;
@@ -109,15 +110,16 @@ pub(crate) fn box_links(area: &[u8], at: usize) -> [Bid; BOX_NODES]
     out
 }
 
-pub(crate) fn hands(area: &[u8], at: usize) -> [Bid; PROCESSES]
-    ensures { λ r. ⌜ Got at processes (each bid r) (now (area .entry)) ⌝ }
+// A buffer for each process, as the hands are, or for each buffer, as the chains are: there are as many of both.
+pub(crate) fn bids(area: &[u8], at: usize) -> [Bid; BUFFERS]
+    ensures { λ r. ⌜ Got at buffers (each bid r) (now (area .entry)) ⌝ }
 {
-    let mut out = [Bid(0); PROCESSES];
-    if !layout::has_room(area.len(), at, PROCESSES) {
+    let mut out = [Bid(0); BUFFERS];
+    if !layout::has_room(area.len(), at, BUFFERS) {
         return out;
     }
     let mut i = 0;
-    while i < PROCESSES {
+    while i < BUFFERS {
         out[i] = Bid(area[at + i]);
         i += 1;
     }
@@ -147,23 +149,31 @@ pub(crate) fn procs(area: &[u8]) -> Procs
     }
 }
 
-pub(crate) fn mail(area: &[u8]) -> Mail
-    ensures { λ r. ⌜ Got procsLong mailLong (mail r) (now (area .entry)) ⌝ }
+fn boxes(area: &[u8]) -> Boxes
+    ensures { λ r. ⌜ Got procsLong boxesLong (boxes r) (now (area .entry)) ⌝ }
 {
     let next = box_links(area, layout::BOX_NEXT);
     let prev = box_links(area, layout::BOX_PREV);
-    let boxes = Boxes { next, prev };
-    let hand = hands(area, layout::HAND);
+    Boxes { next, prev }
+}
+
+pub(crate) fn mail(area: &[u8]) -> Mail
+    ensures { λ r. ⌜ Got procsLong mailLong (mail r) (now (area .entry)) ⌝ }
+{
+    let boxes = boxes(area);
+    let hand = bids(area, layout::HAND);
     let full = Pids(word(area, layout::FULL));
-    let mut length = [0u16; sizes::BUFFERS];
+    let mut length = [0u16; BUFFERS];
     halfwords(area, layout::LENGTH, &mut length);
     let free = Bids(word(area, layout::FREE));
+    let chain = bids(area, layout::CHAIN);
     Mail {
         boxes,
         hand,
         full,
         length,
         free,
+        chain,
     }
 }
 

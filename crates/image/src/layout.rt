@@ -39,7 +39,9 @@ pub(crate) const LENGTH: usize = FULL + 4;
 
 pub(crate) const FREE: usize = LENGTH + 2 * BUFFERS;
 
-pub(crate) const COUNT: usize = FREE + 4;
+pub(crate) const CHAIN: usize = FREE + 4;
+
+pub(crate) const COUNT: usize = CHAIN + BUFFERS;
 
 pub(crate) const BIRTHS: usize = COUNT + 2 * SEMAPHORES;
 

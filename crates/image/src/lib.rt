@@ -88,12 +88,14 @@ fn blank() -> Kernel
     };
     let hand = [Bid(0); PROCESSES];
     let length = [0u16; BUFFERS];
+    let chain = [Bid(0); BUFFERS];
     let mail = Mail {
         boxes,
         hand,
         full: Pids(0),
         length,
         free: Bids(0),
+        chain,
     };
     let count = [0u16; SEMAPHORES];
     let births = [0u8; PROCESSES];

@@ -3,14 +3,16 @@
 ghost use Prim.Native.Nat.{_*_};
 ghost use lib.ListN.{length};
 ghost use Rattle.image.specs.Bytes.{byte, le, each, Put};
-ghost use Rattle.plain.specs.Sizes.{processes};
-ghost use Rattle.image.specs.Image.{nodes, boxNodes, procsLong, mailLong, birthsAt, settingsAt, settingsLong, pid, bid, procs, mail, settings};
+ghost use Rattle.plain.specs.Sizes.{buffers, processes};
+ghost use Rattle.image.specs.Image.{nodes, boxNodes, procsLong, boxesLong, mailLong, birthsAt, settingsAt, settingsLong, pid, bid, procs, boxes, mail, settings};
 use crate::layout;
 use crate::layout::BOX_NODES;
 use crate::layout::NODES;
+use boxes::Boxes;
 use kernel::Settings;
 use mail::Mail;
 use procs::Procs;
+use sizes::BUFFERS;
 use sizes::Bid;
 use sizes::PROCESSES;
 use sizes::Pid;
@@ -77,14 +79,15 @@ pub(crate) fn box_links(area: &mut [u8], at: usize, xs: [Bid; BOX_NODES])
     bytes(area, at, &numbers);
 }
 
-pub(crate) fn hands(area: &mut [u8], at: usize, xs: [Bid; PROCESSES])
-    ensures { λ _. ⌜ Put at processes (each bid xs) (now (area .entry)) (now (area .exit)) ⌝ }
+// A buffer for each process, as the hands are, or for each buffer, as the chains are: there are as many of both.
+pub(crate) fn bids(area: &mut [u8], at: usize, xs: [Bid; BUFFERS])
+    ensures { λ _. ⌜ Put at buffers (each bid xs) (now (area .entry)) (now (area .exit)) ⌝ }
 {
-    if !layout::has_room(area.len(), at, PROCESSES) {
+    if !layout::has_room(area.len(), at, BUFFERS) {
         return;
     }
     let mut i = 0;
-    while i < PROCESSES {
+    while i < BUFFERS {
         let b = xs[i];
         area[at + i] = b.0;
         i += 1;
@@ -109,20 +112,28 @@ pub(crate) fn procs(area: &mut [u8], p: Procs)
     word(area, layout::UNUSED, p.unused.0);
 }
 
-pub(crate) fn mail(area: &mut [u8], m: Mail)
-    ensures { λ _. ⌜ Put procsLong mailLong (mail m) (now (area .entry)) (now (area .exit)) ⌝ }
+fn boxes(area: &mut [u8], b: Boxes)
+    ensures { λ _. ⌜ Put procsLong boxesLong (boxes b) (now (area .entry)) (now (area .exit)) ⌝ }
 {
-    let b = m.boxes;
     let next = b.next;
     box_links(area, layout::BOX_NEXT, next);
     let prev = b.prev;
     box_links(area, layout::BOX_PREV, prev);
+}
+
+pub(crate) fn mail(area: &mut [u8], m: Mail)
+    ensures { λ _. ⌜ Put procsLong mailLong (mail m) (now (area .entry)) (now (area .exit)) ⌝ }
+{
+    let b = m.boxes;
+    boxes(area, b);
     let hand = m.hand;
-    hands(area, layout::HAND, hand);
+    bids(area, layout::HAND, hand);
     word(area, layout::FULL, m.full.0);
     let length = m.length;
     halfwords(area, layout::LENGTH, &length);
     word(area, layout::FREE, m.free.0);
+    let chain = m.chain;
+    bids(area, layout::CHAIN, chain);
 }
 
 pub(crate) fn births(area: &mut [u8], xs: [u8; PROCESSES])

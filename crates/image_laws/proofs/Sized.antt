@@ -1,40 +1,32 @@
 -- Every struct that holds a sound state is sized: its numbers fit their bytes.
 -- Assumes nothing.
-use Prim.Native.Nat.{ℕ, _+_, _^_, _≤_, _<_}
+use Prim.Native.Nat.{ℕ, _+_, _^_, _≤_}
 use mathlib.Core.Path.{_≡_, sym, ap, _∙_, subst}
 use mathlib.Core.Bool.{Bool}
-use mathlib.Core.Logic.{⊎-elim}
 use mathlib.Core.List.{List, map}
-use mathlib.Core.Option.{Option, none, some}
 use native.Mathlib.Omega.{arith}
-use lib.ListN.{length, getD}
-use Rattle.lists.specs.Lists.{occurs}
-use Rattle.lists.proofs.Laws.{le?, one-same, total-zero}
+use lib.ListN.{length}
 use Rattle.bits.specs.Word.{width, word}
 use Rattle.bits.proofs.Words.{word-below}
 use Rattle.rings.specs.Ring.{Rings}
 use Rattle.rings.specs.Units.{numbered}
-use Rattle.rings.proofs.Laws.{found}
 use Rattle.queues.specs.Queue as Queue
 use Rattle.boxes.specs.Box as Box
 use Rattle.plain.specs.Mailboxes.{mostQueued}
-use Rattle.plain.specs.Sizes.{processes, mailboxes, buffers, bufferSize, longest, semaphores, highestCount}
+use Rattle.plain.specs.Sizes.{processes, mailboxes, buffers, longest, semaphores, highestCount}
 use Rattle.plain.specs.Sound.{Sound}
-use Rattle.plain.specs.Sound as Plain
 use Rattle.plain.specs.Start.{longestSlice}
-use Rattle.plain.specs.State.{Message, Settings, State, usual, buffersOf, inHand, held}
+use Rattle.plain.specs.State.{Settings, State, usual}
 use Rattle.plain_laws.proofs.Seats.{runner-range}
 use Rattle.procs.specs.Stands as Stands
-use Rattle.plain_laws.proofs.Mail.{not-in-hand}
-use Rattle.mail.proofs.Held.{short-in-box, short-in-hand}
-use Rattle.mail.specs.Carries.{bufferIn}
-use Rattle.mail.specs.Carries as Carries
+use Rattle.mail.specs.Carries.{numbers, isFull, isFree}
 use Rattle.habits.proofs.Laws as Habits
 use Rattle.habits.specs.Tables.{entryIn}
 use Rattle.kernel.specs.Holds.{Holds}
 use Rattle.kernel.specs.declared.Kernel.{Kernel}
 use Rattle.image.specs.Image.{U8, U16, U32, Array, Sized}
 use Rattle.image_laws.proofs.Arrays.{fitting, units-fit}
+use Rattle.image_laws.proofs.Limits.{hand-inside, short, link-inside}
 use Rattle.image_laws.proofs.Nodes.{inside}
 
 -- ---- tables of links
@@ -52,27 +44,6 @@ module _ {A : Type 0} (num : A → ℕ) {n m : ℕ} (next prev : List A) {f : �
 bits-fit : {w : ℕ} (t : ℕ → Bool) → w ≡ word width t → U32 w
 bits-fit t e = omega (arith, e, word-below width t)
 
--- ---- buffers in hands
-
-hand-small : (h : Option Message) → ((b : ℕ) → buffers ≤ b → occurs b (inHand h) ≡ 0) → bufferIn h < buffers
-hand-small none z = omega arith
-hand-small (some x) z = ⊎-elim (λ h. absurd (omega (arith, z (x .buffer) h, one-same (x .buffer)))) (λ h. h) (le? buffers (x .buffer))
-
--- ---- lengths of messages
-
--- a buffer that is held has the length of its message, and a free one has 0
-short : {k : Carries.Numbers} {box : ℕ → List Message} {hand : ℕ → Option Message} → Carries.Carries k box hand → {capacity : ℕ → ℕ} → Plain.Mail capacity box hand → (b : ℕ) → getD (k .length) b 0 ≤ longest
-unfolding held
-short {k} {box} {hand} K M b = ⊎-elim
-    (λ r. short-in-box (k .length) b (box (r .0)) (K .queued-lengths (r .0)) (M .queued-short (r .0)) (r .2))
-    (λ (q : (m : ℕ) → m < mailboxes → occurs b (buffersOf (box m)) ≡ 0). ⊎-elim
-    (λ r. short-in-hand (k .length) b (hand (r .0)) (K .hand-lengths (r .0)) (M .hands-short (r .0)) (r .2))
-    (λ (h : (p : ℕ) → p < processes → occurs b (inHand (hand p)) ≡ 0).
-    let free : held box hand b ≡ 0 = omega (arith, total-zero mailboxes (λ m. occurs b (buffersOf (box m))) q, total-zero processes (λ p. occurs b (inHand (hand p))) h) in
-    omega (arith, K .free-lengths b free))
-    (found b processes (λ p. inHand (hand p))))
-    (found b mailboxes (λ m. buffersOf (box m)))
-
 -- ---- what is set of each mailbox
 
 entries-fit : (start f : ℕ → ℕ) (t : List ℕ) → length t ≡ mailboxes → f ≡ entryIn start t → ((m : ℕ) → U8 (f m)) → Array mailboxes U8 t
@@ -81,7 +52,7 @@ entries-fit start f t long is small = fitting U8 mailboxes t long (λ m h. subst
 -- ---- the whole
 
 pub sized : {k : Kernel} {s : State} → Holds k s → Sound s → Sized k
-unfolding Stands.numbers Carries.numbers Queue.tablesOf Box.tablesOf bufferSize longest highestCount longestSlice mostQueued
+unfolding Stands.numbers numbers Queue.tablesOf Box.tablesOf longest highestCount longestSlice mostQueued
 sized {k} {s} H S =
     let P = H .procs .stands in
     let K = H .mail in
@@ -95,16 +66,14 @@ sized {k} {s} H S =
       unused = bits-fit (Stands.isUnused (s .procs)) (H .procs .unused);
       box-next = nexts-fit Box.num (k .mail .boxes .next) (k .mail .boxes .prev) (K .boxes) (omega arith);
       box-prev = prevs-fit Box.num (k .mail .boxes .next) (k .mail .boxes .prev) (K .boxes) (omega arith);
-      hand = units-fit Box.num {F = U8} (k .mail .hand) (fitting U8 processes (map Box.num (k .mail .hand)) (K .hands-long) (λ p h. omega (arith, K .hands p, in-hand p)));
-      full = bits-fit (Carries.isFull (s .hand)) (K .full);
+      hand = units-fit Box.num {F = U8} (k .mail .hand) (fitting U8 processes (map Box.num (k .mail .hand)) (K .hands-long) (λ p h. omega (arith, K .hands p, hand-inside K (S .mail) p)));
+      full = bits-fit (isFull (s .hand)) (K .full);
       lengths = fitting U16 buffers (k .mail .length) (K .lengths-long) (λ b h. omega (arith, short K (S .mail) b));
-      free = bits-fit (Carries.isFree (s .box) (s .hand)) (K .free);
+      free = bits-fit (isFree (s .box) (s .hand)) (K .free);
+      chain = units-fit Box.num {F = U8} (k .mail .chain) (fitting U8 buffers (map Box.num (k .mail .chain)) (K .chain-long) (λ b h. omega (arith, link-inside K (S .mail) b h)));
       count = fitting U16 semaphores (k .count) (H .counts .long) (λ i h. omega (arith, H .counts .each i, S .counts .most i));
       births = fitting U8 processes (k .births) (H .births .long) (λ p h. omega (arith, H .births .each p, S .births .most p));
       slice = omega (arith, ap (λ (x : Settings). x .slice) (H .settings .is), S .settings .not-over);
       capacity = entries-fit (usual .capacity) (s .settings .capacity) (k .settings .capacity) (H .settings .capacities) (ap (λ (x : Settings). x .capacity) (H .settings .is)) (λ m. omega (arith, S .settings .habits .most m));
       mode = entries-fit (usual .mode) (s .settings .mode) (k .settings .mode) (H .settings .modes) (ap (λ (x : Settings). x .mode) (H .settings .is)) (λ m. omega (arith, S .settings .habits .modes m));
     }
-  where
-    in-hand : (p : ℕ) → bufferIn (s .hand p) < buffers
-    in-hand p = hand-small (s .hand p) (λ b h. not-in-hand (s .box) (s .hand) b (S .mail .no-more-buffers b h) (H .mail .no-more-hands) p)

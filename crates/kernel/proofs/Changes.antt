@@ -1,6 +1,7 @@
 -- A state of the code made of changed parts holds the plain state with those parts changed.
 -- Assumes nothing.
 use Prim.Native.Nat.{ℕ, suc, _-_, _≤_, _<_}
+use mathlib.Core.Bool.{false}
 use mathlib.Core.List.{List, [], _∷_}
 use mathlib.Core.Logic.{_≢_}
 use mathlib.Core.Option.{Option, none, some}
@@ -13,12 +14,12 @@ use Rattle.lists.specs.Lists.{someone}
 use Rattle.rings.proofs.Looks.{first-some, first-none}
 use Rattle.plain.specs.Calls as Plain
 use Rattle.plain.specs.Runs.{makeReady, goTo}
-use Rattle.plain.specs.Sizes.{processes, classes, mailboxes, buffers, semaphores, highestCount, atMailbox, atSemaphore, queues}
+use Rattle.plain.specs.Sizes.{processes, classes, mailboxes, longest, semaphores, highestCount, atMailbox, atSemaphore, queues}
 use Rattle.plain.specs.Sound.{Sound}
 use Rattle.plain.specs.State as State
-use Rattle.plain.specs.State.{Message, Settings, State, places, move, line, freeBuffer}
+use Rattle.plain.specs.State.{Message, Settings, State, places, move, line}
+use Rattle.plain.specs.Pages.{needed, lowestFree, tooFew}
 use Rattle.plain_laws.proofs.Frames.{slice-some}
-use Rattle.plain_laws.proofs.Mail.{free-nowhere}
 use Rattle.plain_laws.proofs.Seats.{head-in, runner-range}
 use Rattle.procs.proofs.Calls.{woken-nobody}
 use Rattle.procs.proofs.Kept.{created-kept, woken-kept, went-kept, halted-kept}
@@ -86,20 +87,23 @@ module _ {k : Kernel} {s : State} (H : Holds k s) where
         made-holds (subst (λ (q : ℕ). Made r (Procs.halted q procs) (Mail.letGo (Carries.numbers (k .mail)) q) (k .count) (k .births) (k .settings)) e M)
         (halted-kept (H .procs) (slice-some s S) (S .seated) (S .highest) p h h′) (let-go-carries (H .mail) (S .mail) p h′) (H .counts) (H .births) (H .settings)
 
-    -- buffer b takes message x, which the first waiter at mailbox m gets in hand, or which is queued last
-    pub delivered-holds : {r : Kernel} (m b n : ℕ) (x : List ℕ) → length x ≡ n → m < mailboxes → b < buffers → b ≡ freeBuffer s
-        → Made r (Procs.woken (settingsOf k .slice) (atMailbox m) procs) (Mail.delivered (Carries.numbers (k .mail)) m (Procs.firstOf procs (atMailbox m)) b n) (k .count) (k .births) (k .settings)
-        → Holds r (Plain.deliver m (record { buffer = b; bytes = x }) (s .procs .queue (atMailbox m)) s)
-    delivered-holds {r} m b n x long hm hb is M = go (s .procs .queue (atMailbox m)) refl
+    -- message x takes its buffers; the first waiter at mailbox m gets it in hand, or it is queued last
+    pub delivered-holds : {r : Kernel} (m n : ℕ) (x : List ℕ) → length x ≡ n → m < mailboxes → length x ≤ longest → tooFew (needed (length x)) s ≡ false
+        → Made r (Procs.woken (settingsOf k .slice) (atMailbox m) procs) (Mail.delivered (Carries.numbers (k .mail)) m (Procs.firstOf procs (atMailbox m)) n) (k .count) (k .births) (k .settings)
+        → Holds r (Plain.deliver m (record { lies = lowestFree (needed (length x)) s; bytes = x }) (s .procs .queue (atMailbox m)) s)
+    delivered-holds {r} m n x long hm short enough M = go (s .procs .queue (atMailbox m)) refl
       where
+        y : Message
+        y = record { lies = lowestFree (needed (length x)) s; bytes = x }
+
         carries : (l : List ℕ) → s .procs .queue (atMailbox m) ≡ l
-            → Carries.Carries (Mail.delivered (Carries.numbers (k .mail)) m (Procs.firstOf procs (atMailbox m)) b n) (Plain.deliver m (record { buffer = b; bytes = x }) l s .box) (Plain.deliver m (record { buffer = b; bytes = x }) l s .hand)
-        carries l e = delivered-carries s (H .mail) b n (record { buffer = b; bytes = x }) hb (rw is (free-nowhere s (λ z. omega (arith, is, hb)) .1)) refl long m (Procs.firstOf procs (atMailbox m)) l hm
+            → Carries.Carries (Mail.delivered (Carries.numbers (k .mail)) m (Procs.firstOf procs (atMailbox m)) n) (Plain.deliver m y l s .box) (Plain.deliver m y l s .hand)
+        carries l e = delivered-carries s (H .mail) (S .mail) x n long enough short m (Procs.firstOf procs (atMailbox m)) l hm
             (λ h. sym e ∙ first-nobody (H .procs) (atMailbox m) refl h)
             (λ h. let f = first-there (H .procs) (atMailbox m) refl h in (f .0, sym e ∙ f .1))
             (λ h. let f = first-there (H .procs) (atMailbox m) refl h in S .hands .waiters m (Procs.firstOf procs (atMailbox m)) hm (head-in (s .settings .slice) (s .procs) (S .seated) (atMailbox m) _ (f .0) (f .1)))
 
-        go : (l : List ℕ) → s .procs .queue (atMailbox m) ≡ l → Holds r (Plain.deliver m (record { buffer = b; bytes = x }) l s)
+        go : (l : List ℕ) → s .procs .queue (atMailbox m) ≡ l → Holds r (Plain.deliver m y l s)
         go [] e = made-holds M (roused-kept (atMailbox m) [] (omega arith) e) (carries [] e) (H .counts) (H .births) (H .settings)
         go (w ∷ l) e = made-holds M (roused-kept (atMailbox m) (w ∷ l) (omega arith) e) (carries (w ∷ l) e) (H .counts) (H .births) (H .settings)
 
@@ -133,7 +137,7 @@ module _ {k : Kernel} {s : State} (H : Holds k s) where
     -- the first message of mailbox m goes into the caller's hand
     pub fetched-carried : (m : ℕ) (x : Message) (l : List Message) → m < mailboxes → s .box m ≡ x ∷ l → Plain.hand s ≡ none
         → Carries.Carries (Mail.fetched (Carries.numbers (k .mail)) m (s .procs .running)) (State.fill m l s .box) (State.give (s .procs .running) (some x) s .hand)
-    fetched-carried m x l h e empty = fetched-carries (H .mail) m (s .procs .running) x l h (runner-range (s .settings .slice) (s .procs) (S .seated)) e empty
+    fetched-carried m x l h e empty = fetched-carries (H .mail) m x l h e (s .procs .running) (runner-range (s .settings .slice) (s .procs) (S .seated)) empty
 
     -- the caller's hand is emptied
     pub released-carried : Carries.Carries (Mail.letGo (Carries.numbers (k .mail)) (s .procs .running)) (s .box) (State.give (s .procs .running) none s .hand)

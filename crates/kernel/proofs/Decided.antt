@@ -22,7 +22,7 @@ use Rattle.plain.specs.Sizes.{processes, mailboxes, buffers, semaphores}
 use Rattle.plain.specs.Sound.{Mail}
 use Rattle.plain.specs.Start.{Set}
 use Rattle.plain.specs.State as State
-use Rattle.plain.specs.State.{Message, Settings, State, buffersOf}
+use Rattle.plain.specs.State.{Message, Settings, State}
 use Rattle.procs.specs.Stands as Stands
 use Rattle.mail.specs.Carries as Carries
 use Rattle.names.proofs.Laws.{counts-are}
@@ -67,9 +67,9 @@ module _ (k : Kernel) where
 
   module _ {box : ℕ → List Message} {hand : ℕ → Option Message} (C : Carries.Carries (Carries.numbers (k .mail)) box hand) where
     front-holds : (m : ℕ) (l : List Message) → box m ≡ l → ltb (first buffers mailboxes (Carries.numbers (k .mail) .tables) m) buffers ≡ someone l
-    front-holds m [] e = le-ltb (first buffers mailboxes (Carries.numbers (k .mail) .tables) m) buffers (first-none (C .boxes) m (ap buffersOf e))
+    front-holds m [] e = le-ltb (first buffers mailboxes (Carries.numbers (k .mail) .tables) m) buffers (first-none (C .boxes) m (ap Carries.firsts e))
     front-holds m (x ∷ l) e =
-        let f = first-some (C .boxes) m (x .buffer) (buffersOf l) (ap buffersOf e) in
+        let f = first-some (C .boxes) m (Carries.firstOf x) (Carries.firsts l) (ap Carries.firsts e) in
         lt-ltb (first buffers mailboxes (Carries.numbers (k .mail) .tables) m) buffers (omega (arith, f .0, f .1))
 
     front-is : (m : ℕ) → m < mailboxes → first buffers mailboxes (Carries.numbers (k .mail) .tables) m ≡ getD (map num (k .mail .boxes .next)) (buffers + m) 0

@@ -1,6 +1,6 @@
 -- Mailboxes of the code and of the plain kernel: which are full, busy, or lose their oldest message, and one that is set anew.
 -- Assumes nothing.
-use Prim.Native.Nat.{ℕ, _%_, _<_}
+use Prim.Native.Nat.{ℕ, _%_, _≤_, _<_}
 use mathlib.Core.Bool.{Bool, true, false, not, _&&_, _||_, Bool·not-not}
 use mathlib.Core.List.{List, [], _∷_}
 use mathlib.Core.Logic.{⊎-elim}
@@ -12,17 +12,24 @@ use borrow.Author.Tests.{leb-false}
 use Rattle.lists.proofs.Laws.{either, le?}
 use Rattle.plain.specs.Calls as Plain
 use Rattle.plain.specs.Calls.{on, noMailbox}
-use Rattle.plain.specs.Mailboxes.{allotted, allot, busy, isFull, drops, refuses, overflows, relieved, bufferFor}
-use Rattle.plain.specs.Sizes.{processes, mailboxes, buffers, atMailbox}
+use Rattle.plain.specs.Mailboxes.{allotted, allot, busy, isFull, drops, refuses, overflows, relieved, buffersFor, noBuffers}
+use Rattle.plain.specs.Sizes.{processes, mailboxes, longest, storeSize, atMailbox}
+use Rattle.plain.specs.Pages.{needed}
 use Rattle.plain.specs.Sound.{Sound}
 use Rattle.plain.specs.State as State
 use Rattle.plain.specs.State.{Settings, State, usual, start}
+use Rattle.plain_laws.proofs.Mail.{taken-range}
 use Rattle.plain_laws.proofs.Relief.{relieved-cases, overflow-full}
 use Rattle.plain_laws.proofs.Sound.{relieved-sound}
 use Rattle.procs.specs.Moves.{firstOf, woken}
 use Rattle.procs.specs.Stands as Stands
-use Rattle.mail.proofs.Looks.{full-box, empty-box, lowest-free}
-use Rattle.mail.proofs.Moves.{relieved-carries}
+use Rattle.mail.proofs.Looks as Looks
+use Rattle.mail.proofs.Looks.{full-box, empty-box}
+use Rattle.mail.proofs.Moves.{relieved-carries, delivered-run}
+use Rattle.chains.specs.Links.{run}
+use Rattle.pages.proofs.Whole.{laid-poured}
+use Rattle.pages.specs.Pieces.{laid}
+use Rattle.promise.specs.Promise.{poured}
 use Rattle.mail.specs.Carries as Carries
 use Rattle.mail.specs.Moves as Mail
 use Rattle.mail.specs.declared.Mail as Mail′
@@ -67,8 +74,8 @@ module _ {k : Kernel} {s : State} (H : Holds k s) (m : ℕ) where
     carried : Carries.Carries (Carries.numbers mail) (relieved m s .box) (relieved m s .hand)
     carried = subst (λ (n : Carries.Numbers). Carries.Carries n (relieved m s .box) (relieved m s .hand)) (ap (Mail.relieved (Carries.numbers (k .mail)) m) (sym overflows-is) ∙ sym e) relieved-carried
 
-    pub buffer-is : Mail.lowestFree (Carries.numbers mail) ≡ bufferFor m s
-    buffer-is = lowest-free (relieved m s) carried
+    pub lacks-is : (x : List ℕ) → Mail.lacks (Carries.numbers mail) (length x) ≡ noBuffers m x s
+    lacks-is x = Looks.lacks-is (relieved m s) carried (length x)
 
     abbrev cleared : Kernel
     cleared = record { procs = k .procs; mail = mail; count = k .count; births = k .births; settings = k .settings }
@@ -79,13 +86,23 @@ module _ {k : Kernel} {s : State} (H : Holds k s) (m : ℕ) where
         (λ z C. record { procs = H .procs; mail = C; counts = H .counts; births = H .births; settings = H .settings })
         carried
 
-    -- buffer b takes message x, once mailbox m has lost what it drops
-    pub sent-holds : {r : Kernel} (b n : ℕ) (x : List ℕ) → length x ≡ n → m < mailboxes → b < buffers → b ≡ bufferFor m s
-        → Made r (woken (settingsOf k .slice) (atMailbox m) (Stands.numbers (k .procs))) (Mail.delivered (Carries.numbers mail) m (firstOf (Stands.numbers (k .procs)) (atMailbox m)) b n) (k .count) (k .births) (k .settings)
-        → Holds r (Plain.deliver m (record { buffer = b; bytes = x }) (s .procs .queue (atMailbox m)) (relieved m s))
-    sent-holds {r} b n x long h low is M =
-        let waiting : relieved m s .procs .queue (atMailbox m) ≡ s .procs .queue (atMailbox m) = relieved-cases m s (λ t. t .procs .queue (atMailbox m) ≡ s .procs .queue (atMailbox m)) (λ z. refl) (λ z. refl) in
-        subst (λ (l : List ℕ). Holds r (Plain.deliver m (record { buffer = b; bytes = x }) l (relieved m s))) waiting (delivered-holds relieved-holds (relieved-sound s S m h) m b n x long h low is M)
+    -- message x takes its buffers, once mailbox m has lost what it drops, and the links lead through them
+    module _ (n : ℕ) (x : List ℕ) (long : length x ≡ n) (h : m < mailboxes) (short : length x ≤ longest) (enough : noBuffers m x s ≡ false) where
+      pub sent-holds : {r : Kernel}
+          → Made r (woken (settingsOf k .slice) (atMailbox m) (Stands.numbers (k .procs))) (Mail.delivered (Carries.numbers mail) m (firstOf (Stands.numbers (k .procs)) (atMailbox m)) n) (k .count) (k .births) (k .settings)
+          → Holds r (Plain.deliver m (record { lies = buffersFor m x s; bytes = x }) (s .procs .queue (atMailbox m)) (relieved m s))
+      sent-holds {r} M =
+          let waiting : relieved m s .procs .queue (atMailbox m) ≡ s .procs .queue (atMailbox m) = relieved-cases m s (λ t. t .procs .queue (atMailbox m) ≡ s .procs .queue (atMailbox m)) (λ z. refl) (λ z. refl) in
+          subst (λ (l : List ℕ). Holds r (Plain.deliver m (record { lies = buffersFor m x s; bytes = x }) l (relieved m s))) waiting (delivered-holds relieved-holds (relieved-sound s S m h) m n x long h short enough M)
+
+      sent-run : (w : ℕ) → run (Mail.delivered (Carries.numbers mail) m w n .chain) (needed (length x)) (Mail.lowestFree (Carries.numbers mail)) ≡ buffersFor m x s
+      sent-run w = delivered-run (relieved m s) carried (relieved-sound s S m h .mail) x n long enough short m w
+
+      pub sent-stored : (store : List ℕ) → length store ≡ storeSize → (w : ℕ) {t : List ℕ} {b : ℕ} → t ≡ Mail.delivered (Carries.numbers mail) m w n .chain → b ≡ Mail.lowestFree (Carries.numbers mail)
+          → laid store (run t (needed (length x)) b) x ≡ poured store (buffersFor m x s) x
+      sent-stored store e w c f =
+          ap₂ (λ (t : List ℕ) (b : ℕ). laid store (run t (needed (length x)) b) x) c f
+          ∙ (ap (λ (l : List ℕ). laid store l x) (sent-run w) ∙ laid-poured (buffersFor m x s) store x e (λ j z. taken-range (relieved m s) j (needed (length x)) z))
 
   -- ---- a mailbox that is set anew
 

@@ -13,10 +13,10 @@ use Rattle.plain.specs.Calls as Plain
 use Rattle.plain.specs.Calls.{on, noClass, noMailbox, noSemaphore}
 use Rattle.plain.specs.Mailboxes.{noSize}
 use Rattle.plain.specs.Names.{bare, names}
-use Rattle.plain.specs.Sizes.{processes, buffers, longest, highestCount, storeSize}
+use Rattle.plain.specs.Sizes.{processes, longest, highestCount, storeSize}
 use Rattle.plain.specs.State.{State}
 use Rattle.mail.specs.Carries.{numbers}
-use Rattle.mail.specs.Moves.{lowestFree, hasMessage, lengthInHand, relieved}
+use Rattle.mail.specs.Moves.{lacks, hasMessage, lengthInHand, relieved}
 use Rattle.mail.specs.declared.Mail.{Mail}
 use Rattle.verdicts.specs.Chain.{found}
 use Rattle.verdicts.specs.declared.Facts.{Facts}
@@ -30,7 +30,7 @@ use Rattle.names.specs.Counts.{countIn}
 use Rattle.plain_laws.proofs.Names.{named}
 use Rattle.promise.specs.Promise.{noStore}
 use Rattle.kernel.specs.declared.Kernel.{Kernel}
-use Rattle.kernel.proofs.Fullness.{refuses-is, buffer-is, busy-found}
+use Rattle.kernel.proofs.Fullness.{refuses-is, lacks-is, busy-found}
 use Rattle.kernel.proofs.Judging.{runner-is, judged-found, judged-by}
 use Rattle.kernel.proofs.Reading.{hand-full, length-held}
 
@@ -66,10 +66,10 @@ module _ {k : Kernel} {f : Facts} {v : Verdict} (G : Gathered k f) where
   unfolding Plain.refusals
   judged-mailbox m c d {busy} b e = judged-found (f .sound) (G .sound) (noMailbox m ∷ on 17 (noSize c d) ∷ on 18 busy ∷ []) e (λ s H S. rw b (busy-found H m S (on 17 (noSize c d))))
 
-  pub judged-send : (store x : List ℕ) {held n : ℕ} (m : ℕ) {full : Bool} {b : ℕ} (mail : Mail) → length store ≡ held → length x ≡ n → full ≡ refusesAt k m → numbers mail ≡ relieved (numbers (k .mail)) m (overflowsAt k m) → b ≡ lowestFree (numbers mail) → v ≡ found (on 14 (not (f .sound)) ∷ on 15 (not (eqb held storeSize)) ∷ noMailbox m ∷ on 6 (ltb longest n) ∷ on 11 full ∷ on 12 (eqb b buffers) ∷ []) → Judged (λ s. noStore store ∷ Plain.refusals s (Plain.send m x)) k v
+  pub judged-send : (store x : List ℕ) {held n : ℕ} (m : ℕ) {full few : Bool} (mail : Mail) → length store ≡ held → length x ≡ n → full ≡ refusesAt k m → numbers mail ≡ relieved (numbers (k .mail)) m (overflowsAt k m) → few ≡ lacks (numbers mail) (length x) → v ≡ found (on 14 (not (f .sound)) ∷ on 15 (not (eqb held storeSize)) ∷ noMailbox m ∷ on 6 (ltb longest n) ∷ on 11 full ∷ on 12 few ∷ []) → Judged (λ s. noStore store ∷ Plain.refusals s (Plain.send m x)) k v
   unfolding Plain.refusals
-  judged-send store x {held} {n} m {full} {b} mail d l is relief free e =
-      judged-found (f .sound) (G .sound) (on 15 (not (eqb held storeSize)) ∷ noMailbox m ∷ on 6 (ltb longest n) ∷ on 11 full ∷ on 12 (eqb b buffers) ∷ []) e (λ s H S. rw (d, l, is, refuses-is H m, free, buffer-is H m S mail relief) refl)
+  judged-send store x {held} {n} m {full} {few} mail d l is relief short e =
+      judged-found (f .sound) (G .sound) (on 15 (not (eqb held storeSize)) ∷ noMailbox m ∷ on 6 (ltb longest n) ∷ on 11 full ∷ on 12 few ∷ []) e (λ s H S. rw (d, is, refuses-is H m, short, lacks-is H m S mail relief x, l) refl)
 
   pub judged-receive : (m : ℕ) {hand : Bool} → hand ≡ hasMessage (numbers (k .mail)) (k .procs .running .0) → v ≡ found (on 14 (not (f .sound)) ∷ on 5 (eqb (f .runner .0) 0) ∷ noMailbox m ∷ on 7 hand ∷ []) → Judged (λ s. Plain.refusals s (Plain.receive m)) k v
   unfolding Plain.refusals

@@ -25,10 +25,11 @@ use Rattle.plain.specs.Start.{Set as Settled}
 use Rattle.plain.specs.State as State
 use Rattle.plain.specs.State.{Message, State, places}
 use Rattle.plain_laws.proofs.Places.{runs-once}
+use Rattle.plain_laws.proofs.Relief.{nobody}
 use Rattle.plain_laws.proofs.Seats.{member, nowhere}
 use Rattle.mail.specs.Carries as Carries
 use Rattle.waits.specs.Waits.{HandFits, WaitFits}
-use Rattle.kernel.proofs.Reading.{nobody-there, empty-hand-is}
+use Rattle.kernel.proofs.Reading.{empty-hand-is}
 
 -- who stands in no queue and does not run is in no place
 nowhere-at-all : (r : State.Procs) (p : ℕ) → r .running ≢ p → Absent p (r .queue) → places r p ≡ 0
@@ -91,7 +92,7 @@ module _ (s : State) (at : List ℕ) (full : ℕ) (holding : ℕ → Bool) (is-f
           waiters = λ m p h o. let w = who (atMailbox m) p o in no-hand p (w .0) (w .1) (λ f. f .no-mailbox m h (there (atMailbox m) p o));
         };
         waits = record {
-          boxes = λ m p h o. let w = who (atMailbox m) p o in nobody-there (s .box m) (sym (is-holding m h) ∙ fit p (w .0) (w .1) .lying .at-mailbox m h (there (atMailbox m) p o));
+          boxes = λ m p h o. let w = who (atMailbox m) p o in nobody (s .box m) (sym (is-holding m h) ∙ fit p (w .0) (w .1) .lying .at-mailbox m h (there (atMailbox m) p o));
           counts = λ i p h o. let w = who (atSemaphore i) p o in fit p (w .0) (w .1) .lying .at-semaphore i h (there (atSemaphore i) p o);
         };
         counts = record { most = counts; no-more = no-more-counts };

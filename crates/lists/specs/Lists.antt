@@ -50,6 +50,11 @@ unfoldable pub lowest : ℕ → ℕ → (ℕ → Bool) → ℕ
 lowest i zero t = i
 lowest i (suc n) t = if t i then i else lowest (suc i) n t
 
+-- those of the n numbers from i on that pass the test, lowest first
+unfoldable pub those : ℕ → ℕ → (ℕ → Bool) → List ℕ
+those i zero t = []
+those i (suc n) t = if t i then i ∷ those (suc i) n t else those (suc i) n t
+
 -- an array of n entries has those of f, which is 0 behind them
 pub record Entries (n : ℕ) (t : List ℕ) (f : ℕ → ℕ) : Type 0 where
   pub long : length t ≡ n

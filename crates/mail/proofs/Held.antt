@@ -1,60 +1,105 @@
--- In how many places a buffer is held, as messages come into a mailbox or a hand and leave it.
+-- The first buffers of messages, and those that are held.
 -- Assumes nothing.
-use Prim.Native.Nat.{ℕ, _+_, _≤_, _<_}
-use mathlib.Core.Path.{_≡_, refl, sym, ap, _∙_}
+use Prim.Native.Nat.{ℕ, suc, _+_, _≤_}
+use mathlib.Core.Path.{_≡_, refl, sym, ap, _∙_, subst}
 use mathlib.Core.Logic.{_≢_, ⊎-elim}
-use mathlib.Core.List.{List, [], _∷_, _++_, append-assoc}
+use mathlib.Core.List.{List, [], _∷_, _++_, map}
 use mathlib.Core.Option.{Option, none, some}
 use native.Mathlib.Omega.{arith}
-use lib.ListN.{getD}
-use Rattle.lists.specs.Lists.{put, occurs}
-use Rattle.lists.proofs.Laws.{same?, one-other, occurs-append, total-zero}
-use Rattle.plain.specs.Sizes.{processes, mailboxes, longest}
-use Rattle.plain.specs.Sound.{AllShort, Short}
-use Rattle.plain.specs.State.{Message, lies, buffersOf, inHand, held}
-use Rattle.plain_laws.proofs.Mail.{held-box, held-hand}
-use Rattle.mail.specs.Carries.{AsLong, LongInHand}
+use lib.ListN.{length, getD}
+use Rattle.lists.specs.Lists.{put, one, occurs}
+use Rattle.lists.proofs.Laws.{same?, put-same, put-other, one-same, one-other, occurs-append, total-zero}
+use Rattle.plain.specs.Pages.{needed}
+use Rattle.plain.specs.Sizes.{processes, mailboxes}
+use Rattle.plain.specs.State.{Message, Each, InHand, buffersOf, inHand, held}
+use Rattle.mail.specs.Carries.{firstOf, firsts, firstIn, Has, NoneAt}
 
-pub buffers-append : (l r : List Message) → buffersOf (l ++ r) ≡ buffersOf l ++ buffersOf r
-buffers-append [] r = refl
-buffers-append (x ∷ l) r = ap (λ (a : List ℕ). lies x ++ a) (buffers-append l r) ∙ sym (append-assoc (lies x) (buffersOf l) (buffersOf r))
+pub firsts-append : (l r : List Message) → firsts (l ++ r) ≡ firsts l ++ firsts r
+firsts-append [] r = refl
+firsts-append (x ∷ l) r = ap (λ (a : List ℕ). firstOf x ∷ a) (firsts-append l r)
+
+pub firsts-none : (l : List Message) → firsts l ≡ [] → l ≡ []
+firsts-none [] e = refl
+firsts-none (x ∷ l) e = absurd (omega (arith, ap length e))
 
 pub held-nowhere : (b : ℕ) → held (λ m. []) (λ p. none) b ≡ 0
 unfolding held
 held-nowhere b = omega (arith, total-zero mailboxes (λ m. 0) (λ m h. refl), total-zero processes (λ p. 0) (λ p h. refl))
 
-module _ (box : ℕ → List Message) (hand : ℕ → Option Message) (b : ℕ) where
-  -- a message goes last into mailbox m
-  pub held-queued : (m : ℕ) (x : Message) → m < mailboxes → held (put box m (box m ++ (x ∷ []))) hand b ≡ held box hand b + occurs b (lies x)
-  held-queued m x h =
-      omega (
-        arith,
-        held-box box hand m (box m ++ (x ∷ [])) b h,
-        ap (occurs b) (buffers-append (box m) (x ∷ [])),
-        occurs-append b (buffersOf (box m)) (lies x),
+pub head-there : (l : List ℕ) → 1 ≤ length l → 1 ≤ occurs (getD l 0 0) l
+head-there [] z = absurd (omega arith)
+head-there (y ∷ l) z = omega (arith, one-same y)
+
+-- who begins somewhere lies there
+module _ (lengths chain : List ℕ) where
+  pub first-in : {x : Message} → Has lengths chain x → 1 ≤ occurs (firstOf x) (x .lies)
+  unfolding needed
+  first-in {x} h = head-there (x .lies) (omega (arith, h .many))
+
+  first-once : (b : ℕ) {x : Message} → Has lengths chain x → occurs b (firstOf x ∷ []) ≤ occurs b (x .lies)
+  unfolding needed
+  first-once b {x} h = go (x .lies) (omega (arith, h .many))
+    where
+      go : (l : List ℕ) → 1 ≤ length l → occurs b (getD l 0 0 ∷ []) ≤ occurs b l
+      go [] z = absurd (omega arith)
+      go (y ∷ l) z = omega arith
+
+  pub firsts-held : (b : ℕ) (l : List Message) → Each (Has lengths chain) l → occurs b (firsts l) ≤ occurs b (buffersOf l)
+  firsts-held b [] a = omega arith
+  firsts-held b (x ∷ l) a = omega (arith, first-once b (a .0), firsts-held b l (a .1), occurs-append b (x .lies) (buffersOf l))
+
+  pub first-held : (b : ℕ) (h : Option Message) → InHand (Has lengths chain) h → occurs b (firstIn h) ≤ occurs b (inHand h)
+  first-held b none a = omega arith
+  first-held b (some x) a = first-once b a
+
+-- ---- where no message begins, as one comes or goes
+
+module _ (box : ℕ → List Message) (hand : ℕ → Option Message) (b : ℕ) (x : Message) where
+  -- x goes last into mailbox m
+  pub none-queued : (m : ℕ) → NoneAt (put box m (box m ++ (x ∷ []))) hand b → NoneAt box hand b × (b ≢ firstOf x)
+  none-queued m z =
+      let l : List Message = box m ++ (x ∷ []) in
+      let here : occurs b (firsts (box m)) + occurs b (firstOf x ∷ []) ≡ 0 =
+      sym (occurs-append b (firsts (box m)) (firstOf x ∷ [])) ∙ (ap (occurs b) (sym (firsts-append (box m) (x ∷ []))) ∙ subst (λ (a : List Message). occurs b (firsts a) ≡ 0) (put-same box m l) (z .queued m)) in (
+        record {
+          queued = λ i. ⊎-elim
+              (λ (e : i ≡ m). rw e (omega arith))
+              (λ (d : i ≢ m). subst (λ (a : List Message). occurs b (firsts a) ≡ 0) (put-other box m l i d) (z .queued i))
+              (same? i m);
+          in-hands = z .in-hands;
+        },
+        λ e. omega (arith, subst (λ (y : ℕ). one y b ≡ 1) e (one-same b)),
       )
 
-  -- a message goes into the empty hand of p
-  pub held-given : (p : ℕ) (x : Message) → p < processes → hand p ≡ none → held box (put hand p (some x)) b ≡ held box hand b + occurs b (lies x)
-  held-given p x h e = omega (arith, held-hand box hand p (some x) b h, ap (λ (a : Option Message). occurs b (inHand a)) e)
+  -- mailbox m loses x, its first
+  pub none-lost : (m : ℕ) (l : List Message) → box m ≡ x ∷ l → NoneAt (put box m l) hand b → b ≢ firstOf x → NoneAt box hand b
+  none-lost m l e z d = record {
+    queued = λ i. ⊎-elim
+        (λ (c : i ≡ m). rw (c, e) (omega (arith, one-other (firstOf x) b (λ y. d (sym y)), subst (λ (a : List Message). occurs b (firsts a) ≡ 0) (put-same box m l) (z .queued m))))
+        (λ (c : i ≢ m). subst (λ (a : List Message). occurs b (firsts a) ≡ 0) (put-other box m l i c) (z .queued i))
+        (same? i m);
+    in-hands = z .in-hands;
+  }
 
-  -- mailbox m loses its first message
-  pub held-lost : (m : ℕ) (x : Message) (l : List Message) → m < mailboxes → box m ≡ x ∷ l → held (put box m l) hand b + occurs b (lies x) ≡ held box hand b
-  held-lost m x l h e = omega (arith, held-box box hand m l b h, ap (λ (a : List Message). occurs b (buffersOf a)) e, occurs-append b (lies x) (buffersOf l))
+  -- x goes into the empty hand of p
+  pub none-given : (p : ℕ) → hand p ≡ none → NoneAt box (put hand p (some x)) b → NoneAt box hand b × (b ≢ firstOf x)
+  none-given p e z = (
+    record {
+      queued = z .queued;
+      in-hands = λ i. ⊎-elim
+          (λ (c : i ≡ p). rw (c, e) refl)
+          (λ (c : i ≢ p). subst (λ (a : Option Message). occurs b (firstIn a) ≡ 0) (put-other hand p (some x) i c) (z .in-hands i))
+          (same? i p);
+    },
+    λ c. omega (arith, subst (λ (y : ℕ). one y b ≡ 1) c (one-same b), subst (λ (a : Option Message). occurs b (firstIn a) ≡ 0) (put-same hand p (some x)) (z .in-hands p)),
+  )
 
-  -- the hand of p loses its message
-  pub held-let-go : (p : ℕ) (x : Message) → p < processes → hand p ≡ some x → held box (put hand p none) b + occurs b (lies x) ≡ held box hand b
-  held-let-go p x h e = omega (arith, held-hand box hand p none b h, ap (λ (a : Option Message). occurs b (inHand a)) e)
-
--- a buffer in which a message lies is as long as the message
-module _ (lengths : List ℕ) (b : ℕ) where
-  pub short-in-box : (l : List Message) → AsLong lengths l → AllShort l → 1 ≤ occurs b (buffersOf l) → getD lengths b 0 ≤ longest
-  short-in-box [] a s o = absurd (omega arith)
-  short-in-box (x ∷ l) a s o = ⊎-elim
-      (λ (e : x .buffer ≡ b). rw (← e) (omega (arith, a .0, s .0)))
-      (λ (d : x .buffer ≢ b). short-in-box l (a .1) (s .1) (omega (arith, one-other (x .buffer) b d)))
-      (same? (x .buffer) b)
-
-  pub short-in-hand : (o : Option Message) → LongInHand lengths o → Short o → 1 ≤ occurs b (inHand o) → getD lengths b 0 ≤ longest
-  short-in-hand none a s o = absurd (omega arith)
-  short-in-hand (some x) a s o = short-in-box (x ∷ []) (a, tt) (s, tt) o
+  -- the hand of p loses x
+  pub none-let-go : (p : ℕ) → hand p ≡ some x → NoneAt box (put hand p none) b → b ≢ firstOf x → NoneAt box hand b
+  none-let-go p e z d = record {
+    queued = z .queued;
+    in-hands = λ i. ⊎-elim
+        (λ (c : i ≡ p). rw (c, e) (omega (arith, one-other (firstOf x) b (λ y. d (sym y)))))
+        (λ (c : i ≢ p). subst (λ (a : Option Message). occurs b (firstIn a) ≡ 0) (put-other hand p none i c) (z .in-hands i))
+        (same? i p);
+  }

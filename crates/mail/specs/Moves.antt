@@ -2,12 +2,15 @@
 -- Total: a mailbox, process or buffer number past the last leaves what it would change as it is. Assumes nothing.
 use Prim.Native.Nat.{ℕ}
 use mathlib.Core.Bool.{Bool, true, false}
-use lib.ListN.{getD, set, replicate}
+use mathlib.Core.List.{List}
+use lib.ListN.{length, getD, set, replicate}
 use lib.Dec.{ltb}
-use Rattle.lists.specs.Lists.{if_then_else_, put, lowest}
+use Rattle.lists.specs.Lists.{if_then_else_, put, lowest, those}
 use Rattle.bits.specs.Word.{width, word, bits}
 use Rattle.rings.specs.Ring.{Tables}
 use Rattle.rings.specs.Moves.{fresh, joinRear, leave, first, isEmpty, holdsAtLeast}
+use Rattle.chains.specs.Links.{own, run, lows, linkUp, alone, puts}
+use Rattle.plain.specs.Pages.{needed}
 use Rattle.plain.specs.Sizes.{processes, mailboxes, buffers}
 use Rattle.mail.specs.Carries.{Numbers}
 
@@ -16,6 +19,10 @@ use Rattle.mail.specs.Carries.{Numbers}
 -- 32 where no buffer is free
 unfoldable pub lowestFree : Numbers → ℕ
 lowestFree k = lowest 0 width (bits (k .free))
+
+-- fewer buffers are free than n bytes need
+unfoldable pub lacks : Numbers → ℕ → Bool
+lacks k n = ltb (length (those 0 width (bits (k .free)))) (needed n)
 
 -- mailbox m, which takes n messages, is full
 unfoldable pub isFullBox : Numbers → ℕ → ℕ → Bool
@@ -27,11 +34,11 @@ isEmptyBox k m = isEmpty buffers mailboxes (k .tables) m
 unfoldable pub hasMessage : Numbers → ℕ → Bool
 hasMessage k p = bits (k .full) p
 
--- the buffer in a hand
+-- the first buffer of what is in a hand
 unfoldable pub handAt : Numbers → ℕ → ℕ
 handAt k p = getD (k .hand) p 0
 
--- the length of the message in buffer b
+-- the length of the message that begins in buffer b
 abbrev pub lengthAt : Numbers → ℕ → ℕ
 lengthAt k b = getD (k .length) b 0
 
@@ -53,23 +60,27 @@ freshMail = record {
   full = word width (λ p. false);
   length = replicate buffers 0;
   free = word width (λ b. true);
+  chain = own;
 }
 
--- buffer b has a message of n bytes, or is free
-abbrev stocked : Numbers → ℕ → ℕ → Bool → Numbers
-stocked k b n free = record {
+-- message buffers l, the first of which is b, have n as their length, are linked so, and are free or not
+abbrev stocked : Numbers → ℕ → ℕ → List ℕ → List ℕ → Bool → Numbers
+stocked k b n chain l free = record {
   tables = k .tables;
   hand = k .hand;
   full = k .full;
   length = set (k .length) b n;
-  free = word width (put (bits (k .free)) b free);
+  free = word width (puts (bits (k .free)) l free);
+  chain = chain;
 }
 
-unfoldable pub filled : Numbers → ℕ → ℕ → Numbers
-filled k b n = stocked k b n false
+-- as many of the lowest free buffers as n bytes need take a message of n bytes
+unfoldable pub filled : Numbers → ℕ → Numbers
+filled k n = let l : List ℕ = lows (needed n) (bits (k .free)) in stocked k (lowestFree k) n (linkUp (k .chain) l) l false
 
+-- the buffers of the message that begins in buffer b become free
 unfoldable pub freed : Numbers → ℕ → Numbers
-freed k b = stocked k b 0 true
+freed k b = let l : List ℕ = run (k .chain) (needed (lengthAt k b)) b in stocked k b 0 (alone (k .chain) l) l true
 
 -- process p has buffer b in hand, or has an empty hand
 abbrev holding : Numbers → ℕ → ℕ → Bool → Numbers
@@ -79,6 +90,7 @@ holding k p b full = record {
   full = word width (put (bits (k .full)) p full);
   length = k .length;
   free = k .free;
+  chain = k .chain;
 }
 
 unfoldable pub given : Numbers → ℕ → ℕ → Numbers
@@ -89,21 +101,21 @@ emptied k p = holding k p 0 false
 
 -- the mailboxes' links are t
 abbrev pub relinked : Numbers → Tables → Numbers
-relinked k t = record { tables = t; hand = k .hand; full = k .full; length = k .length; free = k .free }
+relinked k t = record { tables = t; hand = k .hand; full = k .full; length = k .length; free = k .free; chain = k .chain }
 
--- buffer b takes a message of n bytes and is queued last in mailbox m
-unfoldable pub queuedLast : Numbers → ℕ → ℕ → ℕ → Numbers
-queuedLast k m b n = relinked (filled k b n) (joinRear buffers mailboxes (k .tables) m b)
+-- a message of n bytes takes its buffers and is queued last in mailbox m
+unfoldable pub queuedLast : Numbers → ℕ → ℕ → Numbers
+queuedLast k m n = relinked (filled k n) (joinRear buffers mailboxes (k .tables) m (lowestFree k))
 
--- buffer b takes a message of n bytes and goes into the hand of process p
-unfoldable pub handedOver : Numbers → ℕ → ℕ → ℕ → Numbers
-handedOver k p b n = given (filled k b n) p b
+-- a message of n bytes takes its buffers and goes into the hand of process p
+unfoldable pub handedOver : Numbers → ℕ → ℕ → Numbers
+handedOver k p n = given (filled k n) p (lowestFree k)
 
--- buffer b takes a message of n bytes for mailbox m: w, the first who waits there, gets it in hand; where w is no process, it is queued last
-unfoldable pub delivered : Numbers → ℕ → ℕ → ℕ → ℕ → Numbers
-delivered k m w b n = if ltb w processes then handedOver k w b n else queuedLast k m b n
+-- a message of n bytes takes its buffers for mailbox m: w, the first who waits there, gets it in hand; where w is no process, it is queued last
+unfoldable pub delivered : Numbers → ℕ → ℕ → ℕ → Numbers
+delivered k m w n = if ltb w processes then handedOver k w n else queuedLast k m n
 
--- the first buffer of mailbox m leaves it and becomes free
+-- the first message of mailbox m leaves it, and its buffers become free
 unfoldable pub oldestDropped : Numbers → ℕ → Numbers
 oldestDropped k m =
     let b : ℕ = first buffers mailboxes (k .tables) m in
@@ -119,6 +131,6 @@ fetched k m p =
     let b : ℕ = first buffers mailboxes (k .tables) m in
     relinked (given k p b) (leave buffers mailboxes (k .tables) b)
 
--- the buffer in the hand of process p becomes free; nothing changes where the hand is empty
+-- the buffers of the message in the hand of process p become free; nothing changes where the hand is empty
 unfoldable pub letGo : Numbers → ℕ → Numbers
 letGo k p = if hasMessage k p then emptied (freed k (handAt k p)) p else k

@@ -1,11 +1,12 @@
-// What is held: the mailboxes' queues of buffers, each process's hand, the length of each buffer's message, and which buffers are free.
+// What is held: the mailboxes' queues of messages, each process's hand, the length of each message, which buffers are free, and how those of a message are linked.
+// A message is known by the first of its buffers: that one is queued or in a hand, and has its length.
 // Every function answers for every number: past the last process there is no hand, past the last mailbox no queue, past the last buffer no message.
 ghost use mathlib.Core.Path.{_≡_};
 ghost use mathlib.Core.List.{map};
 ghost use lib.ListN.{getD, set};
 ghost use Rattle.boxes.specs.Box.{num};
 ghost use Rattle.mail.specs.Carries.{numbers};
-ghost use Rattle.mail.specs.Moves.{lowestFree, isFullBox, isEmptyBox, hasMessage, handAt, lengthInHand, firstLength, freshMail, filled, freed, given, emptied, queuedLast, handedOver, delivered, oldestDropped, relieved, fetched, letGo};
+ghost use Rattle.mail.specs.Moves.{lowestFree, lacks, isFullBox, isEmptyBox, hasMessage, handAt, lengthInHand, firstLength, freshMail, filled, freed, given, emptied, queuedLast, handedOver, delivered, oldestDropped, relieved, fetched, letGo};
 use boxes::Boxes;
 use sizes::Bid;
 use sizes::Bids;
@@ -25,9 +26,10 @@ pub struct Mail {
     pub full: Pids,
     pub length: [u16; sizes::BUFFERS],
     pub free: Bids,
+    pub chain: [Bid; sizes::BUFFERS],
 }
 
-// The buffer in the hand of p, or 0 past the last hand.
+// What the hands have for p, or 0 past the last hand.
 fn hand_of(hands: [Bid; sizes::PROCESSES], p: Pid) -> Bid
     ensures { λ r. ⌜ r .0 ≡ getD (map num hands) (p .0) 0 ⌝ }
 {
@@ -50,7 +52,7 @@ fn with_hand(mut hands: [Bid; sizes::PROCESSES], p: Pid, b: Bid) -> [Bid; sizes:
     hands
 }
 
-// The length of the message in b, or 0 past the last buffer.
+// The length of the message that begins in b, or 0 past the last buffer.
 fn length_of(lengths: [u16; sizes::BUFFERS], b: Bid) -> u32
     ensures { λ r. ⌜ r ≡ getD lengths (b .0) 0 ⌝ }
 {
@@ -81,20 +83,29 @@ impl Mail {
         let boxes = Boxes::fresh();
         let hand = [Bid(0); sizes::PROCESSES];
         let length = [0u16; sizes::BUFFERS];
+        let chain = chains::fresh();
         Mail {
             boxes,
             hand,
             full: Pids(0),
             length,
             free: Bids(ALL),
+            chain,
         }
     }
 
-    // The lowest free buffer, or 32 where none is free.
-    pub fn lowest_free(self) -> u32
-        ensures { λ r. ⌜ r ≡ lowestFree (numbers self) ⌝ }
+    // The lowest free buffer, in which the next message begins, or 32 where none is free.
+    pub fn lowest_free(self) -> Bid
+        ensures { λ r. ⌜ r .0 ≡ lowestFree (numbers self) ⌝ }
     {
-        bits::lowest_bit(self.free.0)
+        chains::lowest_of(self.free.0)
+    }
+
+    // Whether fewer buffers are free than n bytes need.
+    pub fn lacks(self, n: usize) -> bool
+        ensures { λ r. ⌜ r ≡ lacks (numbers self) n ⌝ }
+    {
+        !chains::enough(self.free, chains::buffers_for(n))
     }
 
     // Whether mailbox m, which takes n messages, is full.
@@ -119,7 +130,7 @@ impl Mail {
         bits::has_bit(self.full.0, p.0 as u32)
     }
 
-    // What the table of hands has for p; whether that is a buffer in hand, `has_message` says.
+    // What the table of hands has for p; whether a message in hand begins there, `has_message` says.
     pub fn in_hand(self, p: Pid) -> Bid
         ensures { λ r. ⌜ r .0 ≡ handAt (numbers self) (p .0) ⌝ }
     {
@@ -149,31 +160,41 @@ impl Mail {
         length_of(lengths, first)
     }
 
-    // Buffer b takes a message of n bytes.
-    fn fill(mut self, b: Bid, n: u16) -> Mail
-        ensures { λ r. ⌜ numbers r ≡ filled (numbers self) (b .0) n ⌝ }
+    // As many of the lowest free buffers as n bytes need take a message of n bytes.
+    fn fill(mut self, n: u16) -> Mail
+        ensures { λ r. ⌜ numbers r ≡ filled (numbers self) n ⌝ }
     {
+        let b = self.lowest_free();
         let old = self.length;
         let lengths = with_length(old, b, n);
+        let links = self.chain;
+        let taken = chains::take(links, self.free, chains::buffers_for(n as usize));
+        let chain = taken.chain;
+        let free = taken.free;
         self.length = lengths;
-        let free = Bids(bits::without_bit(self.free.0, b.0 as u32));
+        self.chain = chain;
         self.free = free;
         self
     }
 
-    // Buffer b becomes free.
+    // The buffers of the message that begins in b become free.
     fn set_free(mut self, b: Bid) -> Mail
         ensures { λ r. ⌜ numbers r ≡ freed (numbers self) (b .0) ⌝ }
     {
         let old = self.length;
+        let n = length_of(old, b) as usize;
         let lengths = with_length(old, b, 0);
+        let links = self.chain;
+        let left = chains::give_back(links, b, chains::buffers_for(n), self.free);
+        let chain = left.chain;
+        let free = left.free;
         self.length = lengths;
-        let free = Bids(bits::with_bit(self.free.0, b.0 as u32));
+        self.chain = chain;
         self.free = free;
         self
     }
 
-    // Buffer b goes into the hand of p.
+    // The message that begins in b goes into the hand of p.
     fn give(mut self, p: Pid, b: Bid) -> Mail
         ensures { λ r. ⌜ numbers r ≡ given (numbers self) (p .0) (b .0) ⌝ }
     {
@@ -197,37 +218,38 @@ impl Mail {
         self
     }
 
-    // Buffer b takes a message of n bytes and is queued last in mailbox m.
-    fn queue_last(self, m: u32, b: Bid, n: u16) -> Mail
-        ensures { λ r. ⌜ numbers r ≡ queuedLast (numbers self) m (b .0) n ⌝ }
+    // A message of n bytes takes its buffers and is queued last in mailbox m.
+    fn queue_last(self, m: u32, n: u16) -> Mail
+        ensures { λ r. ⌜ numbers r ≡ queuedLast (numbers self) m n ⌝ }
     {
         let queues = self.boxes;
-        let joined = queues.join_rear(m, b);
-        let mut next = self.fill(b, n);
+        let joined = queues.join_rear(m, self.lowest_free());
+        let mut next = self.fill(n);
         next.boxes = joined;
         next
     }
 
-    // Buffer b takes a message of n bytes and goes into the hand of p.
-    fn hand_over(self, p: Pid, b: Bid, n: u16) -> Mail
-        ensures { λ r. ⌜ numbers r ≡ handedOver (numbers self) (p .0) (b .0) n ⌝ }
+    // A message of n bytes takes its buffers and goes into the hand of p.
+    fn hand_over(self, p: Pid, n: u16) -> Mail
+        ensures { λ r. ⌜ numbers r ≡ handedOver (numbers self) (p .0) n ⌝ }
     {
-        let next = self.fill(b, n);
+        let b = self.lowest_free();
+        let next = self.fill(n);
         next.give(p, b)
     }
 
-    // Buffer b takes a message of n bytes for mailbox m: w, the first who waits there, gets it in hand; where w is no process, it is queued last.
-    pub fn deliver(self, m: u32, w: Pid, b: Bid, n: u16) -> Mail
-        ensures { λ r. ⌜ numbers r ≡ delivered (numbers self) m (w .0) (b .0) n ⌝ }
+    // A message of n bytes takes its buffers for mailbox m: w, the first who waits there, gets it in hand; where w is no process, it is queued last.
+    pub fn deliver(self, m: u32, w: Pid, n: u16) -> Mail
+        ensures { λ r. ⌜ numbers r ≡ delivered (numbers self) m (w .0) n ⌝ }
     {
         if w.0 < PROCESSES {
-            self.hand_over(w, b, n)
+            self.hand_over(w, n)
         } else {
-            self.queue_last(m, b, n)
+            self.queue_last(m, n)
         }
     }
 
-    // The first buffer of mailbox m leaves it and becomes free: its oldest message is lost.
+    // The first message of mailbox m leaves it, and its buffers become free: it is lost.
     fn drop_oldest(self, m: u32) -> Mail
         ensures { λ r. ⌜ numbers r ≡ oldestDropped (numbers self) m ⌝ }
     {
@@ -258,7 +280,7 @@ impl Mail {
         next
     }
 
-    // The buffer in the hand of p becomes free; nothing changes where the hand is empty.
+    // The buffers of the message in the hand of p become free; nothing changes where the hand is empty.
     pub fn let_go(self, p: Pid) -> Mail
         ensures { λ r. ⌜ numbers r ≡ letGo (numbers self) (p .0) ⌝ }
     {

@@ -5,9 +5,10 @@ use mathlib.Core.Path.{_≡_, refl}
 use mathlib.Core.List.{List, [], _∷_, _++_, map}
 use native.Mathlib.Omega.{arith}
 use lib.ListN.{replicate}
-use Rattle.lists.specs.Lists.{total, lowest}
+use Rattle.lists.specs.Lists.{total, lowest, those}
 use Rattle.plain.specs.Sizes.{bufferSize, longest, highestCount}
-use Rattle.plain.specs.State.{Message, State, fresh, spots, held, freeProcess, freeBuffer}
+use Rattle.plain.specs.State.{Message, State, fresh, spots, held, freeProcess, freeBuffers}
+use Rattle.plain.specs.Pages.{needed}
 use Rattle.plain.specs.Names.{born, raised, name, bare, names}
 use Rattle.plain.specs.Mailboxes.{mostQueued, noSize, busy, refuses, overflows, relieved}
 use Rattle.plain.specs.Runs.{choose, chooseBelow, join, standDown, makeReady, goTo, remove, halt}
@@ -32,7 +33,7 @@ shown a = (a .0 .code, a .0 .number, a .0 .running)
 
 -- what the script of a row answers from s on, and how far semaphore 15 counts after it; and what the row says of both
 unfoldable pub got : State → List Line → List (ℕ × ℕ × ℕ) × ℕ
-unfolding answers after step refusals perform freshStart raised name bare names mostQueued noSize busy refuses overflows relieved choose chooseBelow join standDown makeReady goTo remove halt spots total lowest held freeProcess freeBuffer bufferSize longest highestCount longestSlice
+unfolding answers after step refusals perform freshStart raised name bare names mostQueued noSize busy refuses overflows relieved choose chooseBelow join standDown makeReady goTo remove halt spots total lowest held freeProcess freeBuffers those needed bufferSize longest highestCount longestSlice
 got s l = (map shown (answers s (script l)), (after s (script l)) .count 15)
 
 abbrev pub told : List Line → List (ℕ × ℕ × ℕ) × ℕ
@@ -95,8 +96,8 @@ starts-shown = refl
 -- "Mistakes that come easily", where the table does not show them
 abbrev pub mistakes : List (List Line)
 mistakes =
-    -- "A message of 512 bytes is taken, 513 gives 6. Mailbox 16 with 513 bytes gives 3."
-    (send 0 (replicate 512 0) ⇒ (0, 0, 0) ∷ send 0 (replicate 513 0) ⇒ (6, 0, 0) ∷ send 16 (replicate 513 0) ⇒ (3, 0, 0) ∷ [])
+    -- "A message of 512 bytes is taken, 513 gives 6. Mailbox 16 with 513 bytes gives 3.": by request 6 4,096 and 4,097
+    (send 0 (replicate 4096 0) ⇒ (0, 0, 0) ∷ send 0 (replicate 4097 0) ⇒ (6, 0, 0) ∷ send 16 (replicate 4097 0) ⇒ (3, 0, 0) ∷ [])
     -- a message that a waiter got is no longer queued
     ∷ (create 1 ⇒ (0, 257, 1) ∷ receive 0 ⇒ (32, 0, 0) ∷ send 0 abc ⇒ (0, 0, 1) ∷ read 3 ⇒ (0, 3, 1) ∷ release ⇒ (0, 0, 1) ∷ receive 0 ⇒ (32, 0, 0) ∷ [])
     -- a stopped process leaves nothing in the hand of the next of its number
@@ -146,13 +147,13 @@ unfolding got
 habits-shown = refl
 
 -- The buffers in which the messages of mailbox 5 lie, which takes two: the one that is dropped is the lowest free one; with a lower one free that is taken; with room for it nothing is dropped.
-abbrev pub laid : List Call → List ℕ
-laid cs = map (λ (x : Message). x .buffer) (after tuned cs .box 5)
+abbrev pub laid : List Call → List (List ℕ)
+laid cs = map (λ (x : Message). x .lies) (after tuned cs .box 5)
 
 pub drops-shown : map laid ((mailbox 5 2 1 ∷ send 5 [] ∷ send 5 [] ∷ send 5 abc ∷ [])
     ∷ (mailbox 5 2 1 ∷ send 0 [] ∷ send 5 [] ∷ send 5 [] ∷ create 1 ∷ receive 0 ∷ release ∷ send 5 abc ∷ [])
     ∷ (mailbox 5 3 1 ∷ send 5 [] ∷ send 5 [] ∷ send 5 abc ∷ [])
-    ∷ []) ≡ (1 ∷ 0 ∷ []) ∷ (2 ∷ 0 ∷ []) ∷ (0 ∷ 1 ∷ 2 ∷ []) ∷ []
+    ∷ []) ≡ ((1 ∷ []) ∷ (0 ∷ []) ∷ []) ∷ ((2 ∷ []) ∷ (0 ∷ []) ∷ []) ∷ ((0 ∷ []) ∷ (1 ∷ []) ∷ (2 ∷ []) ∷ []) ∷ []
 unfolding got
 drops-shown = refl
 
@@ -163,6 +164,26 @@ filled = mailbox 5 31 1 ∷ mailbox 6 2 1 ∷ send 6 [] ∷ replicate 31 (send 5
 pub all-in-use : map shown (answers (after tuned filled) (send 6 abc ∷ send 5 abc ∷ [])) ≡ (12, 0, 0) ∷ (0, 0, 0) ∷ []
 unfolding got
 all-in-use = refl
+
+-- Request 6: none and 512 bytes lie in one buffer, 513 in two; a drop that frees three of them, for a message that needs four.
+pub pages-shown : map laid ((send 5 [] ∷ send 5 (replicate 512 0) ∷ send 5 (replicate 513 0) ∷ [])
+    ∷ (mailbox 5 2 1 ∷ send 5 (replicate 1025 0) ∷ send 5 [] ∷ send 5 (replicate 1537 0) ∷ [])
+    ∷ []) ≡ ((0 ∷ []) ∷ (1 ∷ []) ∷ (2 ∷ 3 ∷ []) ∷ []) ∷ ((3 ∷ []) ∷ (0 ∷ 1 ∷ 2 ∷ 4 ∷ []) ∷ []) ∷ []
+unfolding got
+pages-shown = refl
+
+-- Six buffers are free, and mailbox 5, which takes two, drops one more: eight are refused by one buffer, and its oldest message stays; seven are taken.
+abbrev pub nearlyFull : List Call
+nearlyFull = mailbox 5 2 1 ∷ send 5 [] ∷ send 5 (replicate 4096 0) ∷ send 6 (replicate 4096 0) ∷ send 6 (replicate 4096 0) ∷ send 6 [] ∷ []
+
+pub one-too-few : map shown (answers (after tuned nearlyFull) (send 5 (replicate 3585 0) ∷ send 5 (replicate 3584 0) ∷ [])) ≡ (12, 0, 0) ∷ (0, 0, 0) ∷ []
+unfolding got
+one-too-few = refl
+
+pub oldest-stays : map (λ (c : Call). laid (nearlyFull ++ (c ∷ []))) (send 5 (replicate 3585 0) ∷ send 5 (replicate 3584 0) ∷ [])
+    ≡ ((0 ∷ []) ∷ (1 ∷ 2 ∷ 3 ∷ 4 ∷ 5 ∷ 6 ∷ 7 ∷ 8 ∷ []) ∷ []) ∷ ((1 ∷ 2 ∷ 3 ∷ 4 ∷ 5 ∷ 6 ∷ 7 ∷ 8 ∷ []) ∷ (0 ∷ 26 ∷ 27 ∷ 28 ∷ 29 ∷ 30 ∷ 31 ∷ []) ∷ []) ∷ []
+unfolding got
+oldest-stays = refl
 
 -- The listing while 1 runs with a message in hand and two ticks left, 2 and 3 are ready, 4 waits at semaphore 15 and 5 at mailbox 7: the rows of 0 to 6.
 abbrev pub listed : List Call

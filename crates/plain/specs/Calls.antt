@@ -10,7 +10,7 @@ use Rattle.lists.specs.Lists.{if_then_else_}
 use Rattle.plain.specs.Sizes.{processes, classes, mailboxes, longest, semaphores, highestCount, atMailbox, atSemaphore}
 use Rattle.plain.specs.State.{Message, Procs, State, level, line, rank, left, move, give, fill, score, unused, freeProcess}
 use Rattle.plain.specs.Names.{born, raised, name, bare, names}
-use Rattle.plain.specs.Mailboxes.{allot, noSize, busy, refuses, relieved, bufferFor, noBuffer}
+use Rattle.plain.specs.Mailboxes.{allot, noSize, busy, refuses, relieved, buffersFor, noBuffers}
 use Rattle.plain.specs.Runs.{makeReady, goTo, halt}
 
 pub data Call : Type 0 where
@@ -125,7 +125,7 @@ perform s yield = done 0 (move (yielded (s .settings .slice) (s .procs)) s)
 perform s (class c) = done 0 (move (regraded (s .settings .slice) c (s .procs)) s)
 perform s tick = done 0 (move (ticked (s .settings .slice) (s .procs)) s)
 perform s (mailbox m c d) = done 0 (allot m c d s)
-perform s (send m b) = done 0 (deliver m (record { buffer = bufferFor m s; bytes = b }) (s .procs .queue (atMailbox m)) (relieved m s))
+perform s (send m b) = done 0 (deliver m (record { lies = buffersFor m b s; bytes = b }) (s .procs .queue (atMailbox m)) (relieved m s))
 perform s (receive m) = fetch m (s .box m) s
 perform s (read room) = answering 0 (length (bytesIn (hand s))) (bytesIn (hand s)) s
 perform s release = done 0 (give (caller s) none s)
@@ -163,7 +163,7 @@ noSemaphore k = on 4 (leb semaphores k)
 abbrev pub idle : State → Refusal
 idle s = on 5 (eqb (caller s) 0)
 
--- "6: message over 512 bytes"
+-- "6: message over 512 bytes", by request 6 "over 4,096"
 abbrev pub tooLong : List ℕ → Refusal
 tooLong b = on 6 (ltb longest (length b))
 
@@ -195,7 +195,7 @@ refusals s yield = idle s ∷ []
 refusals s (class c) = idle s ∷ noClass c ∷ []
 refusals s tick = []
 refusals s (mailbox m c d) = noMailbox m ∷ on 17 (noSize c d) ∷ on 18 (busy m s) ∷ []
-refusals s (send m b) = noMailbox m ∷ tooLong b ∷ on 11 (refuses m s) ∷ on 12 (noBuffer m s) ∷ []
+refusals s (send m b) = noMailbox m ∷ tooLong b ∷ on 11 (refuses m s) ∷ on 12 (noBuffers m b s) ∷ []
 refusals s (receive m) = idle s ∷ noMailbox m ∷ fullHand s ∷ []
 refusals s (read room) = idle s ∷ emptyHand s ∷ shortRoom room s ∷ []
 refusals s release = idle s ∷ emptyHand s ∷ []

@@ -1,6 +1,7 @@
 pub mod Sizes
 pub mod State
 pub mod Names
+pub mod Pages
 pub mod Mailboxes
 pub mod Runs
 pub mod Calls

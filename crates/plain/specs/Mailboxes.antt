@@ -3,11 +3,13 @@
 use Prim.Native.Nat.{ℕ, _≤_}
 use mathlib.Core.Bool.{Bool, not, _&&_, _||_}
 use mathlib.Core.Path.{_≡_}
+use mathlib.Core.List.{List}
 use lib.Dec.{ltb, leb, eqb}
 use lib.ListN.{length, drop}
 use Rattle.lists.specs.Lists.{if_then_else_, put, someone}
-use Rattle.plain.specs.Sizes.{mailboxes, buffers, atMailbox}
-use Rattle.plain.specs.State.{Settings, State, usual, fill, freeBuffer}
+use Rattle.plain.specs.Sizes.{mailboxes, atMailbox}
+use Rattle.plain.specs.State.{Settings, State, usual, fill}
+use Rattle.plain.specs.Pages.{needed, lowestFree, tooFew}
 
 -- "a capacity of 1 to 32"
 unfoldable pub mostQueued : ℕ
@@ -42,17 +44,17 @@ refuses m s = isFull m s && not (drops m s)
 unfoldable pub overflows : ℕ → State → Bool
 overflows m s = isFull m s && drops m s
 
--- what a send to m finds: "A send to a full mailbox that drops loses its oldest message, whose buffer becomes free"
+-- what a send to m finds: "A send to a full mailbox that drops loses its oldest message, whose buffer becomes free", by request 6 all of its buffers
 unfoldable pub relieved : ℕ → State → State
 relieved m s = if overflows m s then fill m (drop 1 (s .box m)) s else s
 
--- ".. and then the lowest free buffer, that one included, is taken: .. 12 and the buffer are judged after it"
-abbrev pub bufferFor : ℕ → State → ℕ
-bufferFor m s = freeBuffer (relieved m s)
+-- ".. and then the lowest free buffer, that one included, is taken": by request 6 as many as bytes b need, in which they lie
+abbrev pub buffersFor : ℕ → List ℕ → State → List ℕ
+buffersFor m b s = lowestFree (needed (length b)) (relieved m s)
 
--- "12: no free buffer (send only)"
-abbrev pub noBuffer : ℕ → State → Bool
-noBuffer m s = eqb (bufferFor m s) buffers
+-- "12: no free buffer (send only)": by request 6 "fewer buffers are free than the message needs, after any drop"; refused, a send drops nothing
+abbrev pub noBuffers : ℕ → List ℕ → State → Bool
+noBuffers m b s = tooFew (needed (length b)) (relieved m s)
 
 -- What is sound of capacities and modes; numbers from 16 on are nobody's, and stay as they start.
 pub record Habits (capacity mode : ℕ → ℕ) : Type 0 where

@@ -26,10 +26,9 @@ unfoldable pub storeSize : ℕ
 unfolding bufferSize
 storeSize = buffers * bufferSize
 
--- "Message: 0 to 512 bytes"
+-- "Message: 0 to 512 bytes", by request 6 "0 to 4,096"
 unfoldable pub longest : ℕ
-unfolding bufferSize
-longest = bufferSize
+longest = 4096
 
 -- "Semaphores: 0 to 15, count 0 to 65,535"
 abbrev pub semaphores : ℕ

@@ -7,8 +7,9 @@ use mathlib.Core.List.{List, [], _∷_}
 use mathlib.Core.Option.{Option, none, some}
 use lib.ListN.{length}
 use Rattle.lists.specs.Lists.{occurs}
-use Rattle.plain.specs.Sizes.{processes, classes, mailboxes, buffers, longest, semaphores, highestCount, atMailbox, atSemaphore, queues}
-use Rattle.plain.specs.State.{Message, Procs, State, level, places, held}
+use Rattle.plain.specs.Sizes.{processes, classes, mailboxes, buffers, semaphores, highestCount, atMailbox, atSemaphore, queues}
+use Rattle.plain.specs.State.{Message, Procs, State, level, places, Each, InHand, held}
+use Rattle.plain.specs.Pages.{Whole}
 use Rattle.plain.specs.Names.{Births}
 use Rattle.plain.specs.Start.{Set}
 
@@ -18,15 +19,6 @@ In s q p = 1 ≤ occurs p (s .queue q)
 
 abbrev pub Used : Procs → ℕ → Type 0
 Used s p = 1 ≤ places s p
-
--- no message over its largest size
-abbrev pub AllShort : List Message → Type 0
-AllShort [] = Unit {0}
-AllShort (x ∷ l) = (length (x .bytes) ≤ longest) × AllShort l
-
-abbrev pub Short : Option Message → Type 0
-Short none = Unit {0}
-Short (some x) = length (x .bytes) ≤ longest
 
 -- The processes, `slice` ticks to a slice. What is said of the runner says nothing where 0 runs, so it also holds midway in a call, before one is chosen.
 pub record Seated (slice : ℕ) (s : Procs) : Type 0 where
@@ -52,12 +44,12 @@ abbrev pub Highest : Procs → Type 0
 Highest s = (c : ℕ) → c < classes → (s .running ≢ 0 → level s (s .running) < c) → s .queue c ≡ []
 
 pub record Mail (capacity : ℕ → ℕ) (box : ℕ → List Message) (hand : ℕ → Option Message) : Type 0 where
-  -- "Each buffer is free, queued in one mailbox, or in the hand of one process; the three groups together are the 32 buffers, none twice."
+  -- "Each buffer is free, queued in one mailbox, or in the hand of one process; the three groups together are the 32 buffers, none twice.": with its message
   pub held-once : (b : ℕ) → held box hand b ≤ 1
   pub no-more-buffers : (b : ℕ) → buffers ≤ b → held box hand b ≡ 0
-  -- "A buffer that isn't free has a length of 0 to 512"
-  pub queued-short : (m : ℕ) → AllShort (box m)
-  pub hands-short : (p : ℕ) → Short (hand p)
+  -- "A buffer that isn't free has a length of 0 to 512": by request 6 a message has one, of 0 to 4,096, and as many buffers as it needs
+  pub queued : (m : ℕ) → Each Whole (box m)
+  pub in-hands : (p : ℕ) → InHand Whole (hand p)
   -- "At most 8 messages are queued in a mailbox": by request 5 as many as it takes
   pub at-most : (m : ℕ) → length (box m) ≤ capacity m
   pub no-more-boxes : (m : ℕ) → mailboxes ≤ m → box m ≡ []

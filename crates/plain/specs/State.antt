@@ -5,12 +5,12 @@ use mathlib.Core.Bool.{Bool}
 use mathlib.Core.List.{List, [], _∷_, _++_}
 use mathlib.Core.Option.{Option, none, some}
 use lib.Dec.{eqb}
-use Rattle.lists.specs.Lists.{put, total, one, occurs, lowest}
+use Rattle.lists.specs.Lists.{put, total, one, occurs, lowest, those}
 use Rattle.plain.specs.Sizes.{processes, mailboxes, buffers, queues}
 
--- A message, queued or in a hand: the buffer that took it, and its bytes.
+-- A message, queued or in a hand: the buffers in which it lies, in order (request 6), and its bytes.
 pub record Message : Type 0 where
-  pub buffer : ℕ
+  pub lies : List ℕ
   pub bytes : List ℕ
 
 -- Who runs, the queues from first to last, and each process's class and ticks left.
@@ -88,6 +88,18 @@ fill m l s = record { procs = s .procs; hand = s .hand; box = put (s .box) m l; 
 abbrev pub score : ℕ → ℕ → State → State
 score k n s = record { procs = s .procs; hand = s .hand; box = s .box; count = put (s .count) k n; births = s .births; settings = s .settings }
 
+-- ---- what is said of messages
+
+-- of each of these
+abbrev pub Each : (Message → Type 0) → List Message → Type 0
+Each P [] = Unit {0}
+Each P (x ∷ l) = P x × Each P l
+
+-- of the one in a hand, if there is one
+abbrev pub InHand : (Message → Type 0) → Option Message → Type 0
+InHand P none = Unit {0}
+InHand P (some x) = P x
+
 -- ---- who stands where: unused and free are those who stand nowhere
 
 -- in how many places p is: running, or in a queue
@@ -101,16 +113,13 @@ abbrev pub unused : Procs → ℕ → Bool
 unused s p = eqb (places s p) 0
 
 -- the buffers in which messages lie
-abbrev pub lies : Message → List ℕ
-lies x = x .buffer ∷ []
-
 abbrev pub buffersOf : List Message → List ℕ
 buffersOf [] = []
-buffersOf (x ∷ l) = lies x ++ buffersOf l
+buffersOf (x ∷ l) = x .lies ++ buffersOf l
 
 abbrev pub inHand : Option Message → List ℕ
 inHand none = []
-inHand (some x) = lies x
+inHand (some x) = x .lies
 
 -- in how many places buffer b is: queued in a mailbox, or in a hand
 unfoldable pub held : (ℕ → List Message) → (ℕ → Option Message) → ℕ → ℕ
@@ -119,9 +128,9 @@ held box hand b = total mailboxes (λ m. occurs b (buffersOf (box m))) + total p
 abbrev pub free : State → ℕ → Bool
 free s b = eqb (held (s .box) (s .hand) b) 0
 
--- "The free process and the free buffer used next are always the lowest-numbered"; past the last one where there is none
+-- "The free process and the free buffer used next are always the lowest-numbered"; past the last one where there is no such process
 unfoldable pub freeProcess : Procs → ℕ
 freeProcess s = lowest 1 (processes - 1) (unused s)
 
-unfoldable pub freeBuffer : State → ℕ
-freeBuffer s = lowest 0 buffers (free s)
+unfoldable pub freeBuffers : State → List ℕ
+freeBuffers s = those 0 buffers (free s)

@@ -13,7 +13,7 @@ use Rattle.lists.proofs.Laws.{same?, put-same, put-other, put-cases}
 use Rattle.lists.specs.Lists.{put, someone}
 use Rattle.plain.specs.Sizes.{atMailbox, atSemaphore}
 use Rattle.plain.specs.State.{Message, State}
-use Rattle.plain.specs.Mailboxes.{overflows, relieved, bufferFor}
+use Rattle.plain.specs.Mailboxes.{overflows, relieved, buffersFor}
 use Rattle.plain.specs.Calls.{Call, create, stop, end, yield, class, tick, mailbox, send, receive, read, release, signal, wait, Outcome, caller, done, deliver, fetch, wake, claim, perform}
 use Rattle.plain_laws.specs.History.{kind, Kind, posts, fetches, other, as-one, isSend, isGone, isDropped, settingsBy, isDone, isRefusal}
 use Rattle.plain_laws.specs.Mailboxes.{Remains}
@@ -107,7 +107,7 @@ accepts s yield = alone s _ refl refl refl
 accepts s (class c) = alone s _ refl refl refl
 accepts s tick = record { code = refl; settings = refl; even = λ m. omega arith; keeps = λ m x z o. inl o }
 accepts s (mailbox m c d) = record { code = refl; settings = refl; even = λ i. omega arith; keeps = λ i x z o. inl o }
-accepts s (send m b) = delivers m (record { buffer = bufferFor m s; bytes = b }) (s .procs .queue (atMailbox m)) s refl
+accepts s (send m b) = delivers m (record { lies = buffersFor m b s; bytes = b }) (s .procs .queue (atMailbox m)) s refl
 accepts s (receive m) = fetched m (s .box m) s refl
 accepts s (read room) = alone s _ refl refl refl
 accepts s release = alone s _ refl refl refl

@@ -4,9 +4,10 @@ use Prim.Native.Nat.{ℕ}
 use mathlib.Core.Bool.{true}
 use mathlib.Core.Path.{_≡_, refl}
 use mathlib.Core.List.{List, [], _∷_}
-use Rattle.lists.specs.Lists.{total, lowest}
+use Rattle.lists.specs.Lists.{total, lowest, those}
 use Rattle.plain.specs.Sizes.{bufferSize, longest}
-use Rattle.plain.specs.State.{State, start, spots, held, freeProcess, freeBuffer}
+use Rattle.plain.specs.State.{State, start, spots, held, freeProcess, freeBuffers}
+use Rattle.plain.specs.Pages.{needed}
 use Rattle.plain.specs.Names.{raised, name, bare, names}
 use Rattle.plain.specs.Mailboxes.{mostQueued, noSize, busy, refuses, overflows, relieved}
 use Rattle.plain.specs.Runs.{choose, chooseBelow, join, standDown, makeReady, goTo, remove, halt}
@@ -21,7 +22,7 @@ tuned = start (sliceOf 3)
 
 -- the state that calls lead to from there
 unfoldable reached : List Call → State
-unfolding after step refusals perform raised name bare names choose chooseBelow join standDown makeReady goTo remove halt spots total lowest held freeProcess freeBuffer bufferSize longest mostQueued noSize busy refuses overflows relieved
+unfolding after step refusals perform raised name bare names choose chooseBelow join standDown makeReady goTo remove halt spots total lowest held freeProcess freeBuffers those needed bufferSize longest mostQueued noSize busy refuses overflows relieved
 reached cs = after tuned cs
 
 -- 2 is ready behind 1, who runs: one ahead. It sees three ticks before it runs, as many as the bound allows, and 1 has two more turns.

@@ -6,35 +6,37 @@ use mathlib.Core.Bool.{Bool, true, false, not, _&&_, true≢false}
 use mathlib.Core.Logic.{_≢_, _⊎_, inl, inr, ⊎-elim}
 use mathlib.Core.List.{List, [], _∷_, _++_, map, List·Memᴰ, List·Memᴰ·head, List·Memᴰ·tail}
 use native.Mathlib.Omega.{arith}
-use lib.ListN.{length, drop}
+use lib.ListN.{length, drop, length-append}
 use lib.Dec.{ltb, leb, eqb}
-use borrow.Author.Tests.{eq-eqb, ne-eqb, le-ltb, lt-leb, leb-false}
-use Rattle.lists.specs.Lists.{if_then_else_, put, occurs, lowest}
-use Rattle.lists.proofs.Laws.{either, le?, put-same, put-cases, one-same, lowest-most}
+use borrow.Author.Tests.{ne-eqb, le-ltb, lt-leb, leb-false}
+use Rattle.lists.specs.Lists.{put, occurs}
+use Rattle.lists.proofs.Laws.{either, le?, put-same, put-cases, occurs-append}
+use Rattle.lists.proofs.Those.{no-longer}
 use Rattle.plain.specs.Sizes.{mailboxes, buffers, longest, atMailbox}
-use Rattle.plain.specs.State.{Message, Settings, State, fill, buffersOf, held, free, freeBuffer}
-use Rattle.plain.specs.Mailboxes.{isFull, drops, refuses, overflows, relieved, bufferFor, noBuffer}
+use Rattle.plain.specs.State.{Message, Settings, State, fill, held, freeBuffers}
+use Rattle.plain.specs.Pages.{needed, tooFew}
+use Rattle.plain.specs.Mailboxes.{isFull, drops, refuses, overflows, relieved, buffersFor, noBuffers}
 use Rattle.plain.specs.Calls.{Call, send, Outcome, deliver, perform, on, refusals, judge, step}
 use Rattle.plain.specs.Sound.{Mail, Sound}
 use Rattle.plain_laws.specs.History.{Kind, falls, posts, fetches, sets, other, kind, Passed, First, as-one, isDone, isDropped, isRefusal, settingsBy, dropped}
 use Rattle.plain_laws.specs.Mailboxes.{Remains}
 use Rattle.plain_laws.proofs.Accepted.{accepts}
 use Rattle.plain_laws.proofs.Calls.{judged, accepted}
-use Rattle.plain_laws.proofs.Mail.{held-box}
+use Rattle.plain_laws.proofs.Mail.{held-lost, free-there, held-not-free, past-not-free}
 use Rattle.plain_laws.proofs.Refusals.{accepted-passed, unchanged, settings-by}
 use Rattle.plain_laws.proofs.Seats.{head-in}
-use Rattle.plain_laws.proofs.Relief.{relieved-cases, relieved-by, overflow-full, no-overflow}
+use Rattle.plain_laws.proofs.Relief.{relieved-cases, overflow-full, no-overflow}
 
 -- ---- sends
+
+and-false : (a : Bool) → (a && false) ≡ false
+and-false true = refl
+and-false false = refl
 
 -- one that drops does not refuse
 unrefused : (m : ℕ) (s : State) → drops m s ≡ true → refuses m s ≡ false
 unfolding refuses
-unrefused m s e = rw e (go (isFull m s))
-  where
-    go : (a : Bool) → (a && false) ≡ false
-    go true = refl
-    go false = refl
+unrefused m s e = rw e (and-false (isFull m s))
 
 overflow-drops : (m : ℕ) (s : State) → overflows m s ≡ true → drops m s ≡ true
 unfolding overflows
@@ -46,7 +48,7 @@ overflow-drops m s = go (isFull m s) (drops m s)
 
 pub never-11 : (s : State) (m : ℕ) (b : List ℕ) → drops m s ≡ true → step s (send m b) .answer .code ≢ 11
 unfolding step refusals perform
-never-11 s m b e = go (leb mailboxes m) (ltb longest (length b)) (refuses m s) (noBuffer m s) (unrefused m s e)
+never-11 s m b e = go (leb mailboxes m) (ltb longest (length b)) (refuses m s) (noBuffers m b s) (unrefused m s e)
   where
     go : (a c r d : Bool) → r ≡ false → judge (on 3 a ∷ on 6 c ∷ on 11 r ∷ on 12 d ∷ []) s (perform s (send m b)) .answer .code ≢ 11
     go true c r d z = omega arith
@@ -60,30 +62,44 @@ module _ (s : State) (k : Sound s) (m : ℕ) (o : overflows m s ≡ true) where
   full : 1 ≤ length (s .box m)
   full = omega (arith, overflow-full m s o, k .settings .habits .some m)
 
-  -- whose buffer is free once it is lost
-  freed : m < mailboxes → (x : Message) (l : List Message) → s .box m ≡ x ∷ l → freeBuffer (fill m l s) ≢ buffers
-  unfolding freeBuffer
-  freed h x l e =
-      let b : ℕ = x .buffer in
-      let less : held (put (s .box) m l) (s .hand) b + 1 ≤ held (s .box) (s .hand) b = omega (arith, held-box (s .box) (s .hand) m l b h, ap (λ (a : List Message). occurs b (buffersOf a)) e, one-same b) in
-      let here : b < buffers = ⊎-elim (λ u. absurd (omega (arith, k .mail .no-more-buffers b u))) (λ u. u) (le? buffers b) in
-      let none : free (fill m l s) b ≡ true = eq-eqb (held (put (s .box) m l) (s .hand) b) 0 (omega (arith, k .mail .held-once b)) in
-      omega (arith, lowest-most 0 buffers b (free (fill m l s)) (omega arith) (omega arith) none)
+  -- whose buffers are free once it is lost, with those that were free before
+  freed : m < mailboxes → (x : Message) (l : List Message) → s .box m ≡ x ∷ l → (b : ℕ) → occurs b (freeBuffers s) + occurs b (x .lies) ≤ occurs b (freeBuffers (fill m l s))
+  freed h x l e b =
+      let was : held (put (s .box) m l) (s .hand) b + occurs b (x .lies) ≡ held (s .box) (s .hand) b = held-lost (s .box) (s .hand) b m x l h e in
+      ⊎-elim
+      (λ (z : buffers ≤ b). omega (arith, past-not-free s b z, k .mail .no-more-buffers b z))
+      (λ (z : b < buffers). ⊎-elim
+      (λ (u : 1 ≤ held (put (s .box) m l) (s .hand) b). omega (arith, k .mail .held-once b, held-not-free s b (omega arith)))
+      (λ (u : held (put (s .box) m l) (s .hand) b < 1). ⊎-elim
+      (λ (v : 1 ≤ held (s .box) (s .hand) b). omega (arith, k .mail .held-once b, held-not-free s b v, free-there (fill m l s) b z (omega arith)))
+      (λ (v : held (s .box) (s .hand) b < 1). omega (arith, free-there s b z (omega arith), free-there (fill m l s) b z (omega arith)))
+      (le? 1 (held (s .box) (s .hand) b)))
+      (le? 1 (held (put (s .box) m l) (s .hand) b)))
+      (le? buffers b)
 
-  pub taken : (b : List ℕ) → m < mailboxes → length b ≤ longest → isDone (step s (send m b)) ≡ true
+  enough : m < mailboxes → (x : Message) (l : List Message) → s .box m ≡ x ∷ l → length (freeBuffers s) + length (x .lies) ≤ length (freeBuffers (fill m l s))
+  enough h x l e = omega (
+    arith,
+    no-longer (freeBuffers s ++ x .lies) (freeBuffers (fill m l s)) (λ b. omega (arith, occurs-append b (freeBuffers s) (x .lies), freed h x l e b)),
+    length-append (freeBuffers s) (x .lies),
+  )
+
+  pub taken : (b : List ℕ) (x : Message) (l : List Message) → s .box m ≡ x ∷ l → m < mailboxes → length b ≤ longest → needed (length b) ≤ length (freeBuffers s) + length (x .lies)
+      → isDone (step s (send m b)) ≡ true
   unfolding step refusals perform
-  taken b h short =
+  taken b x l e h short some =
       rw (
         lt-leb mailboxes m h,
         le-ltb longest (length b) short,
         unrefused m s (overflow-drops m s o),
-        relieved-by m s (λ t. eqb (freeBuffer t) buffers ≡ false) (k .settings .habits .some m) (λ e. absurd (true≢false (sym o ∙ e))) (λ x l e z. ne-eqb (freeBuffer (fill m l s)) buffers (freed h x l e)),
+        relieved-cases m s (λ t. tooFew (needed (length b)) t ≡ false) (λ z. absurd (true≢false (sym o ∙ z)))
+            (λ z. subst (λ (r : List Message). tooFew (needed (length b)) (fill m r s) ≡ false) (sym (ap (drop 1) e)) (le-ltb (length (freeBuffers (fill m l s))) (needed (length b)) (omega (arith, enough h x l e)))),
       ) refl
 
-  pub oldest : (b : List ℕ) → isDone (step s (send m b)) ≡ true → step s (send m b) .next .box m ≡ drop 1 (s .box m) ++ (record { buffer = bufferFor m s; bytes = b } ∷ [])
+  pub oldest : (b : List ℕ) → isDone (step s (send m b)) ≡ true → step s (send m b) .next .box m ≡ drop 1 (s .box m) ++ (record { lies = buffersFor m b s; bytes = b } ∷ [])
   unfolding step refusals perform
   oldest b done =
-      let x : Message = record { buffer = bufferFor m s; bytes = b } in
+      let x : Message = record { lies = buffersFor m b s; bytes = b } in
       let p = accepted-passed s (send m b) (rw done refl) in
       ap (λ (u : Outcome). u .next .box m) (accepted (refusals s (send m b)) s (perform s (send m b)) p) ∙ queued x (leb-false mailboxes m (p .0)) (s .procs .queue (atMailbox m)) refl
     where
@@ -102,11 +118,7 @@ keeps s c m x h o = judged (Remains m x) (refusals s c) s (perform s c) (inl o) 
 
 undropped : (m : ℕ) (s : State) (i : Kind) → overflows m s ≡ false → isDropped m s i ≡ false
 undropped m s falls e = refl
-undropped m s (posts j) e = rw e (go (eqb j m))
-  where
-    go : (a : Bool) → (a && false) ≡ false
-    go true = refl
-    go false = refl
+undropped m s (posts j) e = rw e (and-false (eqb j m))
 undropped m s (fetches j) e = refl
 undropped m s (sets j c d) e = refl
 undropped m s other e = refl
@@ -129,8 +141,4 @@ unfolding dropped
 none-dropped s m [] h u = refl
 none-dropped s m (c ∷ cs) h u =
     rw (undropped m s (kind c) (no-overflow m s (inr (ne-eqb (s .settings .mode m) 1 h))))
-    (omega (arith, not-counted (isDone (step s c)), none-dropped (step s c .next) m cs (mode-after s c m h (λ n e. u n (List·Memᴰ·head e))) (λ n i. u n (List·Memᴰ·tail i))))
-  where
-    not-counted : (a : Bool) → as-one (a && false) ≡ 0
-    not-counted true = refl
-    not-counted false = refl
+    (omega (arith, ap as-one (and-false (isDone (step s c))), none-dropped (step s c .next) m cs (mode-after s c m h (λ n e. u n (List·Memᴰ·head e))) (λ n i. u n (List·Memᴰ·tail i))))

@@ -13,7 +13,7 @@ use Rattle.lists.specs.Lists.{if_then_else_, occurs}
 use Rattle.lists.proofs.Laws.{same?, or-false, one-other}
 use Rattle.plain.specs.Sizes.{processes, classes, atMailbox, atSemaphore}
 use Rattle.plain.specs.State.{Message, Procs, State, line, rank, fill, freeProcess}
-use Rattle.plain.specs.Mailboxes.{bufferFor}
+use Rattle.plain.specs.Mailboxes.{buffersFor}
 use Rattle.plain.specs.Runs.{makeReady, goTo}
 use Rattle.plain.specs.Calls.{Call, create, stop, end, yield, class, tick, mailbox, send, receive, read, release, signal, wait, Outcome, Refusal, perform, refusals, judge, step, yielded, ticked, regraded, deliver, wake}
 use Rattle.plain.specs.Sound.{Sound}
@@ -112,7 +112,7 @@ module _ (s : State) (k : Sound s) where
   performs tick x p h = tick-joins x (eqb (r .running) 0 || not (eqb (r .ticks (r .running) - 1) 0)) refl h
   performs (mailbox m c d) x p h = absurd (omega arith)
   performs (send m b) x p h =
-      let y : Message = record { buffer = bufferFor m s; bytes = b } in
+      let y : Message = record { lies = buffersFor m b s; bytes = b } in
       let next : State → List ℕ → State = λ t l. deliver m y l t in
       relieved-cases m s (λ t. Joins x (next t (r .queue (atMailbox m)) .procs))
       (λ e. wakes (atMailbox m) x (r .queue (atMailbox m)) (next s) (omega arith) refl (λ w l. refl) h)

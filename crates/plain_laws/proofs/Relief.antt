@@ -81,7 +81,7 @@ size-passed c d e =
     let z = eqb-false c 0 (b .0) in
     (omega arith, ltb-false mostQueued c (b .1), ltb-false 1 d (a .1))
 
-nobody : {A : Type 0} (l : List A) → someone l ≡ false → l ≡ []
+pub nobody : {A : Type 0} (l : List A) → someone l ≡ false → l ≡ []
 nobody [] e = refl
 nobody (x ∷ l) e = absurd (true≢false e)
 

@@ -13,8 +13,9 @@ use borrow.Author.Tests.{ltb-false, leb-false, eqb-false, not-false}
 use Rattle.lists.specs.Lists.{put, occurs}
 use Rattle.lists.proofs.Laws.{same?, put-same, put-other, put-cases, one-other, total-zero}
 use Rattle.plain.specs.Sizes.{processes, classes, mailboxes, buffers, semaphores, queues, longest, highestCount, atMailbox, atSemaphore}
-use Rattle.plain.specs.State.{Message, Procs, Settings, State, start, usual, move, give, fill, score, line, rank, places, spots, held, freeProcess, freeBuffer}
-use Rattle.plain.specs.Mailboxes.{allot, noSize, refuses, overflows, relieved, bufferFor, noBuffer}
+use Rattle.plain.specs.State.{Message, Procs, Settings, State, start, usual, move, give, fill, score, line, rank, places, spots, held, freeProcess}
+use Rattle.plain.specs.Pages.{needed, lowestFree, tooFew}
+use Rattle.plain.specs.Mailboxes.{allot, noSize, refuses, overflows, relieved, buffersFor, noBuffers}
 use Rattle.plain.specs.Names.{rounds, born, raised, bare}
 use Rattle.plain.specs.Start.{Set, longestSlice}
 use Rattle.plain.specs.Runs.{makeReady, goTo, halt}
@@ -276,15 +277,15 @@ module _ (s : State) (k : Sound s) where
   claims i (suc c) z h e = scores i c h (omega (arith, k .counts .most i)) (λ x o. absurd (omega (arith, k .waits .counts i x h o)))
 
   -- the lowest free buffer takes a message for a mailbox that is not full, or has lost its oldest one
-  posts : (m : ℕ) (b : List ℕ) → m < mailboxes → length b ≤ longest → refuses m s ≡ false → noBuffer m s ≡ false
-      → Goes 0 (deliver m (record { buffer = bufferFor m s; bytes = b }) (s .procs .queue (atMailbox m)) (relieved m s))
+  posts : (m : ℕ) (b : List ℕ) → m < mailboxes → length b ≤ longest → refuses m s ≡ false → noBuffers m b s ≡ false
+      → Goes 0 (deliver m (record { lies = buffersFor m b s; bytes = b }) (s .procs .queue (atMailbox m)) (relieved m s))
   posts m b h short willing = relieves m
-      (λ t. eqb (freeBuffer t) buffers ≡ false → Goes 0 (deliver m (record { buffer = freeBuffer t; bytes = b }) (s .procs .queue (atMailbox m)) t))
-      (λ e z. delivers m (record { buffer = freeBuffer s; bytes = b }) (s .procs .queue (atMailbox m)) h (leb-false (s .settings .capacity m) (length (s .box m)) (not-full m s willing e)) (fits-free s b (k .mail) z short) refl)
+      (λ t. tooFew (needed (length b)) t ≡ false → Goes 0 (deliver m (record { lies = lowestFree (needed (length b)) t; bytes = b }) (s .procs .queue (atMailbox m)) t))
+      (λ e z. delivers m (record { lies = lowestFree (needed (length b)) s; bytes = b }) (s .procs .queue (atMailbox m)) h (leb-false (s .settings .capacity m) (length (s .box m)) (not-full m s willing e)) (fits-free s b (k .mail) z short) refl)
       (λ x l e z.
       let t : State = fill m l s in
       let j : Sound t = loses m x l h e in
-      Rattle.plain_laws.proofs.Sound.delivers t j m (record { buffer = freeBuffer t; bytes = b }) (s .procs .queue (atMailbox m)) h
+      Rattle.plain_laws.proofs.Sound.delivers t j m (record { lies = lowestFree (needed (length b)) t; bytes = b }) (s .procs .queue (atMailbox m)) h
       (omega (arith, ap length (put-same (s .box) m l), k .mail .at-most m, ap length e)) (fits-free t b (j .mail) z short) refl)
 
   performed : (c : Call) → Passed (refusals s c) → Goes (as-one (isTick (kind c))) ((perform s c) .next)
@@ -350,8 +351,8 @@ start-sound x z =
       mail = record {
         held-once = λ b. omega (arith, nothing b);
         no-more-buffers = λ b h. nothing b;
-        queued-short = λ m. tt;
-        hands-short = λ p. tt;
+        queued = λ m. tt;
+        in-hands = λ p. tt;
         at-most = λ m. omega arith;
         no-more-boxes = λ m h. refl;
       };

@@ -1,13 +1,13 @@
 -- The fresh start: it is refused exactly where its settings may not be set, and leads to a sound state in any case.
 -- Assumes nothing.
 use Prim.Native.Nat.{ℕ}
-use mathlib.Core.Bool.{Bool, true, false, _||_, true≢false}
+use mathlib.Core.Bool.{true, false, true≢false}
 use mathlib.Core.Logic.{⊎-elim}
 use mathlib.Core.Path.{_≡_, refl, sym, _∙_}
 use native.Mathlib.Omega.{arith}
 use lib.Dec.{ltb, eqb}
 use borrow.Author.Tests.{eqb-false, ltb-false, ne-eqb, le-ltb}
-use Rattle.lists.proofs.Laws.{either}
+use Rattle.lists.proofs.Laws.{either, or-false}
 use Rattle.plain.specs.Calls.{Outcome, done, refused}
 use Rattle.plain.specs.Sound.{Sound}
 use Rattle.plain.specs.Start.{Set, longestSlice, sliceOf, noSlice, freshStart}
@@ -15,17 +15,13 @@ use Rattle.plain.specs.State.{start, usual, fresh}
 use Rattle.plain_laws.proofs.Relief.{usual-habits}
 use Rattle.plain_laws.proofs.Sound.{usual-set, start-sound}
 
-neither : (a b : Bool) → (a || b) ≡ false → (a ≡ false) × (b ≡ false)
-neither true b e = absurd (true≢false e)
-neither false b e = (refl, e)
-
 module _ (n : ℕ) where
   pub set-passes : Set (sliceOf n) → noSlice n .holds ≡ false
   set-passes z = rw (ne-eqb n 0 (λ e. omega (arith, z .some-ticks)), le-ltb longestSlice n (z .not-over)) refl
 
   pub passes-set : noSlice n .holds ≡ false → Set (sliceOf n)
   passes-set e =
-      let a = neither (eqb n 0) (ltb longestSlice n) e in
+      let a = or-false (eqb n 0) (ltb longestSlice n) e in
       let z = eqb-false n 0 (a .0) in
       record { some-ticks = omega arith; not-over = ltb-false longestSlice n (a .1); habits = usual-habits }
 

@@ -146,7 +146,7 @@ names = record {
 pub mailboxes : Mailboxes
 mailboxes = record {
   never-11 = Boxes.never-11;
-  taken = λ s m b k o. Boxes.taken s k m o b;
+  taken = λ s m b x l k o. Boxes.taken s k m o b x l;
   oldest = λ s m b k o. Boxes.oldest s k m o b;
   keeps = Boxes.keeps;
   none-dropped = λ x m cs. Boxes.none-dropped (start x) m cs;

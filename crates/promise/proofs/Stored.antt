@@ -1,38 +1,40 @@
 -- Every message that is held stands whole in the store, with what a call writes, and a room shows the message in hand.
 -- Assumes nothing.
-use Prim.Native.Nat.{ℕ, zero, suc, _+_, _*_, _≤_, _<_}
+use Prim.Native.Nat.{ℕ, zero, suc, _≤_}
 use mathlib.Core.Bool.{Bool, true, false}
 use mathlib.Core.List.{List, [], _∷_, _++_}
-use mathlib.Core.Logic.{_≢_, ⊎-elim}
+use mathlib.Core.Logic.{_⊎_, inl, inr, ⊎-elim}
 use mathlib.Core.Option.{Option, none, some}
 use mathlib.Core.Path.{_≡_, refl, sym, ap, _∙_, subst}
-use native.Mathlib.Nat.{mul-le-mul-left}
 use native.Mathlib.Omega.{arith}
 use lib.Dec.{eqb}
-use lib.ListN.{length, take, drop, length-drop}
+use lib.ListN.{length, take, drop}
 use lib.Seq.{take-length, take-append-le, length-take-le}
 use borrow.Author.Tests.{eqb-true, eqb-false, ltb-false, leb-false, not-false}
-use Rattle.lists.proofs.Laws.{put-cases, one-same, le?}
-use Rattle.lists.specs.Lists.{if_then_else_, put, one, occurs}
+use Rattle.lists.proofs.Laws.{put-cases}
+use Rattle.lists.specs.Lists.{if_then_else_, put, occurs}
 use Rattle.plain.specs.Calls as Plain
 use Rattle.plain.specs.Calls.{create, stop, end, yield, class, tick, mailbox, send, receive, read, release, signal, wait}
-use Rattle.plain.specs.Mailboxes.{relieved}
+use Rattle.plain.specs.Mailboxes.{relieved, buffersFor}
 use Rattle.plain.specs.Names.{bare}
-use Rattle.plain.specs.Sizes.{mailboxes, buffers, bufferSize, storeSize, longest, atMailbox, atSemaphore}
-use Rattle.plain.specs.Sound.{Sound, AllShort, Short}
-use Rattle.plain.specs.State.{Message, Settings, State, start, lies, buffersOf, inHand, held, freeBuffer}
-use Rattle.plain_laws.proofs.Mail.{free-nowhere, not-queued, not-in-hand}
+use Rattle.plain.specs.Pages.{Whole}
+use Rattle.plain.specs.Sizes.{mailboxes, buffers, storeSize, longest, atMailbox, atSemaphore}
+use Rattle.plain.specs.Sound.{Sound}
+use Rattle.plain.specs.State.{Message, Settings, State, start, Each, InHand, inHand, held}
+use Rattle.plain_laws.proofs.Mail.{Fits, each-rear, fits-free}
 use Rattle.plain_laws.proofs.Refusals.{judge-cases, nonzero}
 use Rattle.plain_laws.proofs.Relief.{relieved-cases}
 use Rattle.plain_laws.proofs.Sound.{relieved-sound}
 use Rattle.plain_laws.specs.History.{Passed}
 use Rattle.promise.specs.Lent.{Lent, lends}
-use Rattle.promise.specs.Promise.{noStore, withStore, written, storeAfter, roomAfter, inStore, StoredAll, Stored}
+use Rattle.promise.specs.Promise.{noStore, withStore, poured, gathered, storeAfter, roomAfter, inStore, Has, Stored}
 use Rattle.promise.specs.Theorems.{copied}
-use Rattle.promise.proofs.Buffers.{anew-long, anew-there, other-kept}
+use Rattle.promise.proofs.Buffers.{gathered-long, gathered-other, poured-long, poured-there}
+use Rattle.promise.proofs.Messages.{room-for, hand-buffers, of-queued, of-hands}
+use Rattle.promise.proofs.Places.{AreBuffers}
 
 pub start-stored : (x : Settings) (store : List ℕ) → length store ≡ storeSize → Stored store (start x)
-start-stored x store e = record { long = e; queued = λ m. tt; in-hands = λ p. refl }
+start-stored x store e = record { long = e; queued = λ m. tt; in-hands = λ p. tt }
 
 -- ---- calls that write nothing
 
@@ -40,38 +42,38 @@ module _ (store : List ℕ) (s : State) (k : Stored store s) where
   moved : (t : State) → t .box ≡ s .box → t .hand ≡ s .hand → Stored store t
   moved t e h = record {
     long = k .long;
-    queued = λ m. subst (λ (f : ℕ → List Message). StoredAll store (f m)) (sym e) (k .queued m);
-    in-hands = λ p. subst (λ (f : ℕ → Option Message). inStore store (f p) ≡ Plain.bytesIn (f p)) (sym h) (k .in-hands p);
+    queued = λ m. subst (λ (f : ℕ → List Message). Each (Has store) (f m)) (sym e) (k .queued m);
+    in-hands = λ p. subst (λ (f : ℕ → Option Message). InHand (Has store) (f p)) (sym h) (k .in-hands p);
   }
 
   let-go : (p : ℕ) (t : State) → t .box ≡ s .box → t .hand ≡ put (s .hand) p none → Stored store t
   let-go p t e h = record {
     long = k .long;
-    queued = λ m. subst (λ (f : ℕ → List Message). StoredAll store (f m)) (sym e) (k .queued m);
-    in-hands = λ q. subst (λ (f : ℕ → Option Message). inStore store (f q) ≡ Plain.bytesIn (f q)) (sym h)
-        (put-cases (λ (a : Option Message). inStore store a ≡ Plain.bytesIn a) (s .hand) p none q (λ d. refl) (λ d. k .in-hands q));
+    queued = λ m. subst (λ (f : ℕ → List Message). Each (Has store) (f m)) (sym e) (k .queued m);
+    in-hands = λ q. subst (λ (f : ℕ → Option Message). InHand (Has store) (f q)) (sym h)
+        (put-cases (InHand (Has store)) (s .hand) p none q (λ d. tt) (λ d. k .in-hands q));
   }
 
   lost : (m : ℕ) → Stored store (relieved m s)
   lost m = relieved-cases m s (Stored store) (λ e. k) (λ e. record {
     long = k .long;
-    queued = λ i. put-cases (StoredAll store) (s .box) m (drop 1 (s .box m)) i (λ d. others (s .box m) (k .queued m)) (λ d. k .queued i);
+    queued = λ i. put-cases (Each (Has store)) (s .box) m (drop 1 (s .box m)) i (λ d. others (s .box m) (k .queued m)) (λ d. k .queued i);
     in-hands = k .in-hands;
   })
     where
-      others : (l : List Message) → StoredAll store l → StoredAll store (drop 1 l)
+      others : (l : List Message) → Each (Has store) l → Each (Has store) (drop 1 l)
       others [] h = tt
       others (x ∷ l) h = h .1
 
   fetched : (m : ℕ) (l : List Message) → s .box m ≡ l → ([] ≡ Plain.fetch m l s .message) × Stored store (Plain.fetch m l s .next)
   fetched m [] e = (refl, moved (Plain.fetch m [] s .next) refl refl)
   fetched m (x ∷ l) e =
-      let was : StoredAll store (x ∷ l) = subst (StoredAll store) e (k .queued m) in (
+      let was : Each (Has store) (x ∷ l) = subst (Each (Has store)) e (k .queued m) in (
         refl,
         record {
           long = k .long;
-          queued = λ i. put-cases (StoredAll store) (s .box) m l i (λ d. was .1) (λ d. k .queued i);
-          in-hands = λ q. put-cases (λ (a : Option Message). inStore store a ≡ Plain.bytesIn a) (s .hand) (Plain.caller s) (some x) q (λ d. was .0) (λ d. k .in-hands q);
+          queued = λ i. put-cases (Each (Has store)) (s .box) m l i (λ d. was .1) (λ d. k .queued i);
+          in-hands = λ q. put-cases (InHand (Has store)) (s .hand) (Plain.caller s) (some x) q (λ d. was .0) (λ d. k .in-hands q);
         },
       )
 
@@ -85,84 +87,59 @@ module _ (store : List ℕ) (s : State) (k : Stored store s) where
 
 -- ---- a send
 
--- where buffer b ends the store goes on or ends
-inside : (b n : ℕ) → b < buffers → n ≤ bufferSize → bufferSize * b + n ≤ storeSize
-unfolding storeSize
-inside b n h l = let next : suc b ≤ buffers = h in omega (arith, mul-le-mul-left bufferSize next)
+module _ (store : List ℕ) (s : State) (k : Sound s) (st : Stored store s) (m : ℕ) (x : Message) (f : Fits (s .box) (s .hand) x) where
+  abbrev later : List ℕ
+  later = poured store (x .lies) (x .bytes)
 
-longest-is : longest ≡ bufferSize
-unfolding longest
-longest-is = refl
+  -- its buffers, and numbers that are no buffers
+  abbrev These : ℕ → Type 0
+  These j = (buffers ≤ j) ⊎ (1 ≤ occurs j (x .lies))
 
--- a message that lies in no buffer past the last lies in one that is there
-pub in-range : (x : Message) (l : List ℕ) → ((j : ℕ) → buffers ≤ j → occurs j (lies x ++ l) ≡ 0) → x .buffer < buffers
-in-range x l r = ⊎-elim (λ (z : buffers ≤ x .buffer). absurd (omega (arith, r (x .buffer) z, one-same (x .buffer)))) (λ z. z) (le? buffers (x .buffer))
+  nowhere : (j : ℕ) → These j → held (s .box) (s .hand) j ≡ 0
+  nowhere j = ⊎-elim (k .mail .no-more-buffers j) (λ (o : 1 ≤ occurs j (x .lies)). omega (arith, f .once j))
 
--- a message in another buffer stands as it stood
-module _ (store : List ℕ) (long : length store ≡ storeSize) (i : ℕ) (b : List ℕ) (hi : i < buffers) (hb : length b ≤ longest) where
-  one-kept : (x : Message) → x .buffer ≢ i → x .buffer < buffers → length (x .bytes) ≤ longest → inStore store (some x) ≡ x .bytes → inStore (written store i b) (some x) ≡ x .bytes
-  one-kept x d r h e =
-      other-kept bufferSize i (x .buffer) (length (x .bytes)) store b (λ z. d (sym z)) (omega (arith, longest-is)) (omega (arith, longest-is))
-      (omega (arith, long, inside i (length b) hi (omega (arith, longest-is)))) (omega (arith, long, inside (x .buffer) (length (x .bytes)) r (omega (arith, longest-is)))) ∙ e
+  -- a message in other buffers stands as it stood
+  kept : (y : Message) → ((j : ℕ) → These j → occurs j (y .lies) ≡ 0) → Whole y → Has store y → Has later y
+  kept y away w h =
+      let same = gathered-other (x .lies) store (x .bytes) (y .lies) (st .long) (f .range) (room-for x (f .whole)) (λ j z. away j (inl z)) (λ j z. away j (inr z)) in
+      ap (take (length (y .bytes))) same ∙ h
 
-  all-kept : (l : List Message) → occurs i (buffersOf l) ≡ 0 → ((j : ℕ) → buffers ≤ j → occurs j (buffersOf l) ≡ 0) → AllShort l → StoredAll store l → StoredAll (written store i b) l
-  all-kept [] o r h e = tt
-  all-kept (x ∷ l) o r h e = (
-    one-kept x (λ z. omega (arith, subst (λ (y : ℕ). one (x .buffer) y ≡ 1) z (one-same (x .buffer)))) (in-range x (buffersOf l) r) (h .0) (e .0),
-    all-kept l (omega arith) (λ j z. omega (arith, r j z)) (h .1) (e .1),
-  )
+  boxes-kept : (q : ℕ) → Each (Has later) (s .box q)
+  boxes-kept = of-queued These kept s k nowhere (st .queued)
 
-  hand-kept : (h : Option Message) → occurs i (inHand h) ≡ 0 → ((j : ℕ) → buffers ≤ j → occurs j (inHand h) ≡ 0) → Short h → inStore store h ≡ Plain.bytesIn h → inStore (written store i b) h ≡ Plain.bytesIn h
-  hand-kept none o r h e = refl
-  hand-kept (some x) o r h e = one-kept x (λ z. omega (arith, subst (λ (y : ℕ). one (x .buffer) y ≡ 1) z (one-same (x .buffer)))) (in-range x [] r) h e
+  hands-kept : (p : ℕ) → InHand (Has later) (s .hand p)
+  hands-kept = of-hands These kept s k nowhere (st .in-hands)
 
-  new-there : inStore (written store i b) (some (record { buffer = i; bytes = b })) ≡ b
-  new-there = anew-there store (bufferSize * i) b (omega (arith, long, inside i (length b) hi (omega (arith, longest-is))))
+  long : length later ≡ storeSize
+  long = poured-long (x .lies) store (x .bytes) (st .long) (f .range)
 
-  still-long : length (written store i b) ≡ storeSize
-  still-long = anew-long store (bufferSize * i) b (omega (arith, long, inside i (length b) hi (omega (arith, longest-is)))) ∙ long
+  there : Has later x
+  there = poured-there (x .lies) store (x .bytes) (st .long) (f .range) (λ j. omega (arith, f .once j)) (room-for x (f .whole))
 
--- a buffer that is held nowhere is in no mailbox and in no hand
-module _ (s : State) (k : Sound s) (b : ℕ) (none-holds : held (s .box) (s .hand) b ≡ 0) where
-  in-no-box : (m : ℕ) → occurs b (buffersOf (s .box m)) ≡ 0
-  in-no-box = not-queued (s .box) (s .hand) b none-holds (λ m h. ap buffersOf (k .mail .no-more-boxes m h))
-
-  pub in-no-hand : (p : ℕ) → occurs b (inHand (s .hand p)) ≡ 0
-  in-no-hand = not-in-hand (s .box) (s .hand) b none-holds (λ p h. k .hands .unused p (k .seated .nobody-else p h))
-
-module _ (store : List ℕ) (s : State) (k : Sound s) (st : Stored store s) (m : ℕ) (b : List ℕ) (short : length b ≤ longest) (some-free : eqb (freeBuffer s) buffers ≡ false) where
-  abbrev i : ℕ
-  i = freeBuffer s
-
-  free-is : (freeBuffer s < buffers) × (held (s .box) (s .hand) (freeBuffer s) ≡ 0)
-  free-is = free-nowhere s (eqb-false (freeBuffer s) buffers some-free)
-
-  boxes-kept : (q : ℕ) → StoredAll (written store i b) (s .box q)
-  boxes-kept q =
-      all-kept store (st .long) i b (free-is .0) short (s .box q) (in-no-box s k i (free-is .1) q) (λ j h. in-no-box s k j (k .mail .no-more-buffers j h) q) (k .mail .queued-short q) (st .queued q)
-
-  hands-kept : (p : ℕ) → inStore (written store i b) (s .hand p) ≡ Plain.bytesIn (s .hand p)
-  hands-kept p =
-      hand-kept store (st .long) i b (free-is .0) short (s .hand p) (in-no-hand s k i (free-is .1) p) (λ j h. in-no-hand s k j (k .mail .no-more-buffers j h) p) (k .mail .hands-short p) (st .in-hands p)
-
-  there : inStore (written store i b) (some (record { buffer = i; bytes = b })) ≡ b
-  there = new-there store (st .long) i b (free-is .0) short
-
-  delivered : (l : List ℕ) → Stored (written store i b) (Plain.deliver m (record { buffer = i; bytes = b }) l s)
+  delivered : (l : List ℕ) → Stored later (Plain.deliver m x l s)
   delivered [] = record {
-    long = still-long store (st .long) i b (free-is .0) short;
-    queued = λ q. put-cases (StoredAll (written store i b)) (s .box) m (s .box m ++ (record { buffer = i; bytes = b } ∷ [])) q (λ d. rear-stored (s .box m) (boxes-kept m)) (λ d. boxes-kept q);
+    long = long;
+    queued = λ q. put-cases (Each (Has later)) (s .box) m (s .box m ++ (x ∷ [])) q (λ d. each-rear (Has later) (s .box m) x (boxes-kept m) there) (λ d. boxes-kept q);
     in-hands = hands-kept;
   }
-    where
-      rear-stored : (l : List Message) → StoredAll (written store i b) l → StoredAll (written store i b) (l ++ (record { buffer = i; bytes = b } ∷ []))
-      rear-stored [] h = (there, tt)
-      rear-stored (x ∷ l) h = (h .0, rear-stored l (h .1))
-  delivered (w ∷ l) = record {
-    long = still-long store (st .long) i b (free-is .0) short;
-    queued = boxes-kept;
-    in-hands = λ q. put-cases (λ (a : Option Message). inStore (written store i b) a ≡ Plain.bytesIn a) (s .hand) w (some (record { buffer = i; bytes = b })) q (λ d. there) (λ d. hands-kept q);
-  }
+  delivered (w ∷ l) = record { long = long; queued = boxes-kept; in-hands = λ q. put-cases (InHand (Has later)) (s .hand) w (some x) q (λ d. there) (λ d. hands-kept q) }
+
+-- the message of a send, which may come in where any drop has left its buffers free
+abbrev pub posted : ℕ → List ℕ → State → Message
+posted m b s = record { lies = buffersFor m b s; bytes = b }
+
+abbrev pub ComesIn : ℕ → List ℕ → State → Type 0
+ComesIn m b s = Fits (relieved m s .box) (relieved m s .hand) (posted m b s)
+
+-- so it is of a send that is not refused
+module _ (s : State) (k : Sound s) (m : ℕ) (b : List ℕ) (p : Passed (Plain.refusals s (send m b))) where
+  finds : Sound (relieved m s)
+  unfolding Plain.refusals
+  finds = relieved-sound s k m (leb-false mailboxes m (p .0))
+
+  pub comes-in : ComesIn m b s
+  unfolding Plain.refusals
+  comes-in = fits-free (relieved m s) b (finds .mail) (p .1 .1 .1 .0) (ltb-false longest (length b) (p .1 .0))
 
 -- ---- every call
 
@@ -182,6 +159,10 @@ Tells s (Lent.room n) o = o .answer .code ≡ 0 → o .answer .number ≡ length
 abbrev Kept : List ℕ → State → Lent → Plain.Outcome → Type 0
 Kept store s l o = Tells s l o × (Stored store s → (leaves l store o s .0 ≡ o .message) × Stored (leaves l store o s .1) (o .next))
 
+in-hand : (store : List ℕ) (h : Option Message) → InHand (Has store) h → inStore store h ≡ Plain.bytesIn h
+in-hand store none k = refl
+in-hand store (some x) k = k
+
 module _ (store : List ℕ) (s : State) (k : Sound s) where
   refused-kept : (l : Lent) (r : Plain.Refusal) → eqb (r .code) 0 ≡ false → Kept store s l (Plain.refused r s)
   refused-kept Lent.nothing r e = (tt, λ st. (refl, st))
@@ -197,16 +178,9 @@ module _ (store : List ℕ) (s : State) (k : Sound s) where
   performed (class c) p = (tt, λ st. (refl, moved store s st _ refl refl))
   performed tick p = (tt, λ st. (refl, moved store s st _ refl refl))
   performed (mailbox m c d) p = (tt, λ st. (refl, moved store s st _ refl refl))
-  performed (send m b) p = (
-    tt,
-    λ st. (
-      refl,
-      delivered store (relieved m s) (relieved-sound s k m (leb-false mailboxes m (p .0))) (lost store s st m) m b (ltb-false longest (length b) (p .1 .0)) (p .1 .1 .1 .0)
-          (s .procs .queue (atMailbox m)),
-    ),
-  )
+  performed (send m b) p = (tt, λ st. (refl, delivered store (relieved m s) (finds s k m b p) (lost store s st m) m (posted m b s) (comes-in s k m b p) (s .procs .queue (atMailbox m))))
   performed (receive m) p = (tt, λ st. fetched store s st m (s .box m) refl)
-  performed (read n) p = (λ z. refl, λ st. (rw (st .in-hands (Plain.caller s)) (take-length (Plain.bytesIn (Plain.hand s))), st))
+  performed (read n) p = (λ z. refl, λ st. (rw (in-hand store (Plain.hand s) (st .in-hands (Plain.caller s))) (take-length (Plain.bytesIn (Plain.hand s))), st))
   performed release p = (tt, λ st. (refl, let-go store s st (Plain.caller s) _ refl refl))
   performed (signal i) p = (tt, λ st. (refl, woken store s st i (s .procs .queue (atSemaphore i))))
   performed (wait i) p = (tt, λ st. claimed store s st i (s .count i))
@@ -216,11 +190,9 @@ module _ (store : List ℕ) (s : State) (k : Sound s) where
   step-kept c = judge-cases (Kept store s (lends c)) (Plain.refusals s c) s (Plain.perform s c) (nonzero s c) (λ r e. refused-kept (lends c) r e) (performed c)
 
   -- the message in hand is as long in a whole store
-  hand-long : length store ≡ storeSize → (h : Option Message) → ((j : ℕ) → buffers ≤ j → occurs j (inHand h) ≡ 0) → Short h → length (inStore store h) ≡ length (Plain.bytesIn h)
-  hand-long e none r z = refl
-  hand-long e (some x) r z =
-      length-take-le (length (x .bytes)) (drop (bufferSize * x .buffer) store)
-      (omega (arith, e, length-drop (bufferSize * x .buffer) store, inside (x .buffer) (length (x .bytes)) (in-range x [] r) (omega (arith, longest-is))))
+  hand-long : length store ≡ storeSize → (h : Option Message) → AreBuffers (inHand h) → InHand Whole h → length (inStore store h) ≡ length (Plain.bytesIn h)
+  hand-long e none r w = refl
+  hand-long e (some x) r w = length-take-le (length (x .bytes)) (gathered store (x .lies)) (omega (arith, gathered-long (x .lies) store e r, room-for x w))
 
   module _ (c : Plain.Call) {n : ℕ} (is : lends c ≡ Lent.room n) where
     -- a call that takes a room tells how long the message in hand is in the store
@@ -230,7 +202,7 @@ module _ (store : List ℕ) (s : State) (k : Sound s) where
         judge-cases (λ (o : Plain.Outcome). o .answer .code ≡ 0 → o .answer .number ≡ length (inStore store (Plain.hand s))) (noStore store ∷ []) s (Plain.step s c) (refl, tt)
         (λ r e z. absurd (eqb-false (r .code) 0 e z))
         (λ whole z. (rw is at (step-kept c .0)) z
-        ∙ sym (hand-long (eqb-true (length store) storeSize (not-false _ (whole .0))) (Plain.hand s) (λ j h. in-no-hand s k j (k .mail .no-more-buffers j h) (Plain.caller s)) (k .mail .hands-short (Plain.caller s))))
+        ∙ sym (hand-long (eqb-true (length store) storeSize (not-false _ (whole .0))) (Plain.hand s) (hand-buffers s k (Plain.caller s)) (k .mail .in-hands (Plain.caller s))))
 
     -- and shows it there as it lies in the store, whatever else the room holds
     pub room-shown : (room : List ℕ) → copied (withStore store c s .answer) (roomAfter store room (withStore store c s) s) ≡ copied (withStore store c s .answer) (inStore store (Plain.hand s))

@@ -37,7 +37,8 @@ lines =
     ∷ ("mailbox 65535 65535 65535", some (does (mailbox 65535 65535 65535)))
     -- numbers
     ∷ ("read 512", some (does (read 512)))
-    ∷ ("read 513", none)
+    ∷ ("read 4096", some (does (read 4096)))
+    ∷ ("read 4097", none)
     ∷ ("create 0", some (does (create 0)))
     ∷ ("create 07", none)
     ∷ ("create 65535", some (does (create 65535)))
@@ -89,14 +90,14 @@ lines-read : map (λ (x : String × Option Order). order (ascii (x .0))) lines �
 unfolding order
 lines-read = refl
 
--- "up to 600 bytes", "one over 1,300 bytes"
+-- request 6: "up to 4,200 message bytes"
 abbrev zeros : ℕ → List ℕ
 zeros n = ascii "send 0 " ++ replicate n (code "0")
 
-longest-message : order (zeros 1200) ≡ some (does (send 0 (replicate 600 0)))
+longest-message : order (zeros 8400) ≡ some (does (send 0 (replicate 4200 0)))
 unfolding order
 longest-message = refl
 
-longer-message : order (zeros 1202) ≡ none
+longer-message : order (zeros 8402) ≡ none
 unfolding order
 longer-message = refl

@@ -1,22 +1,21 @@
--- Laws of hex pairs: two digits at a time, and how many bytes so many digits spell.
+-- Laws of hex pairs: two digits at a time, how many bytes so many digits spell, and which.
 -- Assumes nothing.
-use Prim.Native.Nat.{ℕ, suc, _+_, _*_, _-_, _≤_, _<_}
+use Prim.Native.Nat.{ℕ, zero, suc, _+_, _*_, _-_, _/_, _%_, _≤_, _<_}
 use Prim.Native.Char.{code}
-use mathlib.Core.Path.{_≡_, refl, sym, ap, ap₂, _∙_}
+use mathlib.Core.Path.{_≡_, refl, ap, _∙_}
 use mathlib.Core.Bool.{Bool, true, false, _&&_, false≢true}
-use mathlib.Core.List.{List, [], _∷_, _++_, append-assoc, append-nil}
+use mathlib.Core.List.{List, [], _∷_}
 use mathlib.Core.Option.{Option, none, some}
 use native.Mathlib.Omega.{arith}
-use lib.ListN.{length, getD, drop, set, replicate, length-append, length-drop, drop-of-length-le}
-use lib.Seq.{set-append-seam, drop-drop}
+use lib.ListN.{length, getD, drop, length-drop, drop-of-length-le}
+use lib.Seq.{drop-drop}
 use lib.Dec.{leb}
 use borrow.Author.Tests.{leb-true, le-leb, lt-leb}
 use Rattle.lists.specs.Lists.{if_then_else_}
 use Rattle.answers.specs.Ascii.{ascii}
 use Rattle.script.specs.Grammar.{isDigit, hexDigit, byte, prepend, pairs, atMost, bytes, mostBytes, same}
-use Rattle.script.specs.Promises.{pairAt, bytesOf}
-use Rattle.script.specs.Request.{padded}
-use Rattle.script.specs.declared.hex.Bytes.{Bytes}
+use Rattle.script.specs.Spelled.{spelled, orZero}
+use Rattle.script.specs.Promises.{pairAt, counted}
 use Rattle.script.proofs.WordLaws.{step}
 use Rattle.script.proofs.NumberLaws.{not-some}
 
@@ -67,61 +66,75 @@ pairs-next [] h = absurd (omega arith)
 pairs-next (x ∷ []) h = refl
 pairs-next (x ∷ y ∷ l) h = refl
 
--- ---- the loop that reads pairs: `read` are the bytes of the first `at` digits
+-- ---- the loop that counts pairs: the first `at` digits spell bytes
 
-abbrev after : List ℕ → Option (List ℕ) → Option (List ℕ)
-after b none = none
-after b (some c) = some (b ++ c)
+abbrev after : ℕ → Option ℕ → Option ℕ
+after k none = none
+after k (some n) = some (k + n)
 
-after-more : (b : List ℕ) (x : ℕ) (o : Option (List ℕ)) → after b (prepend (some x) o) ≡ after (b ++ (x ∷ [])) o
-after-more b x none = refl
-after-more b x (some c) = simp append-assoc
-
-padded-more : (b : List ℕ) (x : ℕ) → length b < mostBytes → set (padded b) (length b) x ≡ padded (b ++ (x ∷ []))
-padded-more b x h =
-    let one-more : mostBytes - length b ≡ suc (mostBytes - length (b ++ (x ∷ []))) = simp length-append (omega arith) in
-    rw (one-more, set-append-seam b 0 (replicate (mostBytes - length (b ++ (x ∷ []))) 0) x) (simp append-assoc)
-
-pub record Filled (w out : List ℕ) (i at : ℕ) : Type 0 where
-  pub read : List ℕ
-  pub counted : length read ≡ i
-  pub stored : out ≡ padded read
-  pub rest : pairs w ≡ after read (pairs (drop at w))
-  pub even : at ≡ i + i
+pub record Counted (w : List ℕ) (at : ℕ) : Type 0 where
+  pub rest : counted (pairs w) ≡ after (at / 2) (counted (pairs (drop at w)))
+  pub even : at % 2 ≡ 0
   pub inside : at ≤ length w
 
-pub filled-none : (w : List ℕ) → Filled w (padded []) 0 0
-filled-none w = record { read = []; counted = refl; stored = refl; rest = whole (pairs w); even = refl; inside = omega arith }
+pub counted-none : (w : List ℕ) → Counted w 0
+counted-none w = record { rest = whole (counted (pairs w)); even = refl; inside = omega arith }
   where
-    whole : (o : Option (List ℕ)) → o ≡ after [] o
+    whole : (o : Option ℕ) → o ≡ after 0 o
     whole none = refl
-    whole (some c) = refl
+    whole (some n) = ap some (omega arith)
 
-module _ (w out : List ℕ) (i at : ℕ) (f : Filled w out i at) where
-  pub filled-bad : at < length w → pairAt (drop at w) ≡ none → pairs w ≡ none
-  filled-bad h e = f .rest ∙ rw (pairs-next (drop at w) (simp length-drop (omega arith)), e)
+module _ (w : List ℕ) (at : ℕ) (f : Counted w at) where
+  pub counted-bad : at < length w → pairAt (drop at w) ≡ none → counted (pairs w) ≡ none
+  counted-bad h e = f .rest ∙ rw (pairs-next (drop at w) (simp length-drop (omega arith)), e)
 
-  pub filled-more : (x : ℕ) → i < mostBytes → pairAt (drop at w) ≡ some x → Filled w (set out i x) (i + 1) (at + 2)
-  filled-more x h e =
+  pub counted-more : (x : ℕ) → pairAt (drop at w) ≡ some x → Counted w (at + 2)
+  counted-more x e =
       let two : 2 ≤ length (drop at w) = pair-two (drop at w) x e in
-      let long : at + 2 ≤ length w = omega (arith, length-drop at w) in
+      let next : (at + 2) / 2 ≡ suc (at / 2) = omega arith in
       record {
-        read = f .read ++ (x ∷ []);
-        counted = simp length-append (omega (arith, f .counted));
-        stored = rw (f .stored, ← (f .counted)) (padded-more (f .read) x (omega (arith, f .counted)));
-        rest = f .rest ∙ rw (pairs-next (drop at w) (omega arith), e, drop-drop 2 at w) (after-more (f .read) x (pairs (drop (at + 2) w)));
+        rest = f .rest ∙ rw (pairs-next (drop at w) (omega arith), e, drop-drop 2 at w, next) (one-more (pairs (drop (at + 2) w)));
         even = omega (arith, f .even);
-        inside = long;
+        inside = omega (arith, length-drop at w);
       }
+    where
+      one-more : (o : Option (List ℕ)) → after (at / 2) (counted (prepend (some x) o)) ≡ after (suc (at / 2)) (counted o)
+      one-more none = refl
+      one-more (some b) = ap some (omega arith)
 
-  pub filled-all : length w ≤ at → _≡_ {A = Bytes} (record { good = true; bytes = out; length = i }) (bytesOf (pairs w))
-  filled-all h =
-      let whole : pairs w ≡ some (f .read) = f .rest ∙ rw (drop-of-length-le w h, append-nil (f .read)) in
-      ap₂ (λ (b : List ℕ) (n : ℕ). record { good = true; bytes = b; length = n }) (f .stored) (sym (f .counted)) ∙ sym (ap bytesOf whole)
+  pub counted-all : length w ≤ at → counted (pairs w) ≡ some (length w / 2)
+  counted-all h =
+      let same : at ≡ length w = omega (arith, f .inside) in
+      f .rest ∙ rw (drop-of-length-le w h, same) (ap some (omega arith))
+
+-- ---- the bytes that pairs spell
+
+pub spelled-length : (l : List ℕ) → length (spelled l) ≡ length l / 2
+spelled-length [] = refl
+spelled-length (x ∷ []) = refl
+spelled-length (x ∷ y ∷ l) = omega (arith, spelled-length l)
+
+pub spelled-at : (l : List ℕ) (i : ℕ) → i < length l / 2 → getD (spelled l) i 0 ≡ orZero (pairAt (drop (i + i) l))
+spelled-at [] i h = absurd (omega arith)
+spelled-at (x ∷ []) i h = absurd (omega arith)
+spelled-at (x ∷ y ∷ l) zero h = refl
+spelled-at (x ∷ y ∷ l) (suc i) h =
+    let two : suc i + suc i ≡ suc (suc (i + i)) = omega arith in
+    rw two (spelled-at l i (omega arith))
+
+pub spelled-pairs : (l b : List ℕ) → pairs l ≡ some b → spelled l ≡ b
+spelled-pairs [] b e = cc
+spelled-pairs (x ∷ []) b e = absurd (not-some e)
+spelled-pairs (x ∷ y ∷ l) b e = go (byte (hexDigit x) (hexDigit y)) (pairs l) (λ c d. spelled-pairs l c d) e
+  where
+    go : (o : Option ℕ) (p : Option (List ℕ)) → ((c : List ℕ) → p ≡ some c → spelled l ≡ c) → prepend o p ≡ some b → orZero o ∷ spelled l ≡ b
+    go none p ih d = absurd (not-some d)
+    go (some n) none ih d = absurd (not-some d)
+    go (some n) (some c) ih d = let same : n ∷ c ≡ b = cc in ap (λ (t : List ℕ). n ∷ t) (ih c refl) ∙ same
 
 -- ---- a word of bytes
 
-pairs-length : (l b : List ℕ) → pairs l ≡ some b → length b + length b ≡ length l
+pub pairs-length : (l b : List ℕ) → pairs l ≡ some b → length b + length b ≡ length l
 pairs-length [] b e = let same : [] ≡ b = cc in omega (arith, ap length same)
 pairs-length (x ∷ []) b e = absurd (not-some e)
 pairs-length (x ∷ y ∷ l) b e = go (byte (hexDigit x) (hexDigit y)) (pairs l) (λ c d. pairs-length l c d) e

@@ -1,9 +1,9 @@
 -- Laws of words: where a line is cut, and when two words are the same.
 -- Assumes nothing.
 use Prim.Native.Nat.{ℕ, suc, _+_, _-_, _≤_, _<_}
-use mathlib.Core.Path.{_≡_, refl, ap}
+use mathlib.Core.Path.{_≡_, refl, sym, ap}
 use mathlib.Core.Bool.{Bool, true, false, _&&_}
-use mathlib.Core.List.{List, [], _∷_}
+use mathlib.Core.List.{List, [], _∷_, _++_}
 use mathlib.Core.Logic.{_≢_}
 use native.Mathlib.Omega.{arith}
 use native.Mathlib.Numerals.{add-one}
@@ -75,7 +75,7 @@ cut (x ∷ l) h = go (eqb x space) h (λ d. cut l d)
 abbrev pub rest : List ℕ → ℕ → List ℕ
 rest l n = take (length l - n) (drop n l)
 
-all-from : (l : List ℕ) (n : ℕ) → rest l n ≡ drop n l
+pub all-from : (l : List ℕ) (n : ℕ) → rest l n ≡ drop n l
 all-from l n = take-all (length l - n) (drop n l) (simp length-drop (omega arith))
 
 -- the word before the first space, and the words behind it
@@ -98,3 +98,31 @@ words-begin (x ∷ l) = elim (eqb x space) as (λ (t : Bool). Begins (if t then 
   | true ↦ record { first = []; others = words l; whole = refl }
   | false ↦ begun x (words l)
 ]
+
+-- ---- where the last word stands
+
+abbrev last : List (List ℕ) → List ℕ
+last [] = []
+last (w ∷ []) = w
+last (w ∷ v ∷ ws) = last (v ∷ ws)
+
+-- a line of one word is that word, and one of more ends with the last
+abbrev pub Ends : List ℕ → List (List ℕ) → Type 0
+Ends l [] = ⊥
+Ends l (w ∷ []) = w ≡ l
+Ends l (w ∷ v ∷ ws) = (p : List ℕ) × (l ≡ p ++ last (v ∷ ws))
+
+pub ends : (l : List ℕ) → Ends l (words l)
+ends [] = refl
+ends (x ∷ l) = go (eqb x space) (words l) (ends l)
+  where
+    longer : {a b : List ℕ} → a ≡ b → x ∷ a ≡ x ∷ b
+    longer = ap (λ (m : List ℕ). x ∷ m)
+
+    go : (t : Bool) (ws : List (List ℕ)) → Ends l ws → Ends (x ∷ l) (if t then [] ∷ ws else begin x ws)
+    go true [] e = absurd e
+    go true (w ∷ []) e = (x ∷ [], longer (sym e))
+    go true (w ∷ v ∷ ws) e = (x ∷ e .0, longer (e .1))
+    go false [] e = absurd e
+    go false (w ∷ []) e = longer e
+    go false (w ∷ v ∷ ws) e = (x ∷ e .0, longer (e .1))

@@ -14,21 +14,21 @@ use Rattle.answers.specs.Ascii.{ascii, space}
 
 -- ---- limits
 
--- "one over 1,300 bytes gives `bad`"
+-- "one over 1,300 bytes gives `bad`": by request 6 "lines to 8,600 bytes"
 abbrev pub longestLine : ℕ
-longestLine = 1300
+longestLine = 8600
 
 -- "0 to 65,535"
 abbrev pub highestNumber : ℕ
 highestNumber = 65535
 
--- "up to 600 bytes"
+-- "up to 600 bytes": by request 6 "up to 4,200 message bytes"
 abbrev pub mostBytes : ℕ
-mostBytes = 600
+mostBytes = 4200
 
--- "read takes a room size up to 512"
+-- "read takes a room size up to 512": by request 6 "rooms to 4,096"
 abbrev pub largestRoom : ℕ
-largestRoom = 512
+largestRoom = 4096
 
 -- ---- words
 
@@ -100,7 +100,7 @@ abbrev pub atMost : ℕ → Option (List ℕ) → Option (List ℕ)
 atMost k none = none
 atMost k (some b) = if leb (length b) k then some b else none
 
--- "up to 600 bytes as lowercase hex pairs. No bytes are written `-`"
+-- "as lowercase hex pairs. No bytes are written `-`"
 abbrev pub bytes : List ℕ → Option (List ℕ)
 bytes [] = none
 bytes (x ∷ l) = if same (x ∷ l) (ascii "-") then some [] else atMost mostBytes (pairs (x ∷ l))
@@ -132,7 +132,6 @@ alone =
     ∷ ("release", some (does release))
     ∷ []
 
--- "read takes a room size up to 512"
 abbrev pub reading : ℕ → Option Order
 reading n = if leb n largestRoom then some (does (read n)) else none
 
@@ -150,7 +149,7 @@ numbered n =
     ∷ ("slice", some (slice n))
     ∷ []
 
--- the words that take a number and one thing more: "send takes a mailbox and up to 600 bytes"
+-- the words that take a number and one thing more: "send takes a mailbox and" bytes
 abbrev pub followed : ℕ → List ℕ → List (String × Option Order)
 followed n x =
     ("send", given (bytes x) (λ b. some (does (send n b))))
@@ -179,6 +178,6 @@ sentence (w ∷ x ∷ y ∷ []) = ofThree w x y
 sentence (w ∷ x ∷ y ∷ z ∷ []) = ofFour w x y z
 sentence (w ∷ x ∷ y ∷ z ∷ v ∷ l) = none
 
--- Which order a line is. "Any other line, a blank one or one over 1,300 bytes gives `bad`": those are none.
+-- Which order a line is. "Any other line .. gives `bad`": those are none.
 unfoldable pub order : List ℕ → Option Order
 order line = if ltb longestLine (length line) then none else sentence (words line)

@@ -1,3 +1,4 @@
 pub mod Grammar
+pub mod Spelled
 pub mod Request
 pub mod Promises

@@ -1,20 +1,16 @@
 -- The words in which the private functions promise what they give.
 -- Assumes nothing.
 use Prim.Native.Nat.{ℕ, suc}
-use mathlib.Core.Bool.{Bool, true, false}
 use mathlib.Core.List.{List, [], _∷_}
 use mathlib.Core.Option.{Option, none, some}
 use lib.ListN.{length}
 use lib.Dec.{eqb}
 use Rattle.lists.specs.Lists.{if_then_else_}
 use Rattle.answers.specs.Ascii.{space}
-use Rattle.script.specs.Grammar.{upTo, digits, highestNumber, byte, hexDigit}
-use Rattle.script.specs.Request.{padded, asking, requestOf}
+use Rattle.plain.specs.Calls.{send}
+use Rattle.script.specs.Grammar.{Order, does, given, upTo, digits, highestNumber, byte, hexDigit, bytes}
 use Rattle.script.specs.declared.numbers.Number.{Number}
 use Rattle.script.specs.declared.numbers.Number.the-variants.{Is, Bad}
-use Rattle.script.specs.declared.hex.Bytes.{Bytes}
-use Rattle.script.specs.declared.calls.Word.{Word}
-use Rattle.script.specs.declared.calls.Request.{Request}
 
 -- the place of the first space, or the length where there is none
 abbrev pub firstSpace : List ℕ → ℕ
@@ -36,14 +32,11 @@ pairAt [] = none
 pairAt (x ∷ []) = none
 pairAt (x ∷ y ∷ l) = byte (hexDigit x) (hexDigit y)
 
-abbrev pub noBytes : Bool → Bytes
-noBytes good = record { good = good; bytes = padded []; length = 0 }
+-- how many bytes were read
+abbrev pub counted : Option (List ℕ) → Option ℕ
+counted none = none
+counted (some b) = some (length b)
 
-abbrev pub bytesOf : Option (List ℕ) → Bytes
-bytesOf none = noBytes false
-bytesOf (some b) = record { good = true; bytes = padded b; length = length b }
-
--- a word with the bytes that were read, or bad where they were not
-abbrev pub carried : Word → Option (List ℕ) → Request
-carried w none = requestOf none
-carried w (some b) = asking w b
+-- the send of the bytes that a word spells
+abbrev pub sending : ℕ → List ℕ → Option Order
+sending m x = given (bytes x) (λ b. some (does (send m b)))

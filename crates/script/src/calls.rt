@@ -1,16 +1,14 @@
 // Which order the words of a line are. Assumes nothing.
-use crate::hex::MOST_BYTES;
-use crate::hex::read_bytes;
+use crate::hex::count_bytes;
 use crate::numbers::Number;
 use crate::numbers::read_number;
 use crate::words::first_space;
 use crate::words::is_word;
 ghost use mathlib.Core.Path.{_≡_};
-ghost use mathlib.Core.List.{[], _∷_};
-ghost use mathlib.Core.Option.{none};
-ghost use Rattle.script.specs.Grammar.{beside, alone, reading, numbered, followed, thrice, ofTwo, ofThree, ofFour, sentence, words, bytes};
-ghost use Rattle.script.specs.Promises.{carried};
-ghost use Rattle.script.specs.Request.{asking, requestOf};
+ghost use mathlib.Core.List.{_∷_};
+ghost use Rattle.script.specs.Grammar.{beside, alone, reading, numbered, followed, thrice, ofTwo, ofThree, ofFour, sentence, words};
+ghost use Rattle.script.specs.Promises.{sending};
+ghost use Rattle.script.specs.Request.{wordOf};
 
 // A call that is lent nothing, with its numbers.
 pub enum Quiet {
@@ -27,46 +25,21 @@ pub enum Quiet {
     Wait(u32),
 }
 
-// Which order a line is: none; a call that is lent nothing, one that carries bytes, or one that is lent a room; why a process waits; or a fresh start with so many ticks to a slice.
+// Which order a line is: none; a call that is lent nothing, one that carries so many bytes, which the last of the line spell, two digits a byte, or one that is lent a room; why a process waits; or a fresh start with so many ticks to a slice.
 pub enum Word {
     Bad,
     Call(Quiet),
-    Send(u32),
+    Send(u32, u32),
     Read(u32),
     Why(u32),
     Slice(u32),
 }
 
-// What a line asks for. The message of a send is the first length bytes; what an order does not use is zero.
-pub struct Request {
-    pub word: Word,
-    pub bytes: [u8; MOST_BYTES],
-    pub length: u32,
-}
-
-pub const LARGEST_ROOM: u32 = 512;
-
-// A request with no bytes.
-fn asking(word: Word) -> Request
-    ensures { λ r. ⌜ r ≡ asking word [] ⌝ }
-{
-    let bytes = [0; MOST_BYTES];
-    Request {
-        word,
-        bytes,
-        length: 0,
-    }
-}
-
-pub(crate) fn bad() -> Request
-    ensures { λ r. ⌜ r ≡ requestOf none ⌝ }
-{
-    asking(Word::Bad)
-}
+pub const LARGEST_ROOM: u32 = 4096;
 
 // The words that stand alone.
 fn alone(w: &[u8]) -> Word
-    ensures { λ r. ⌜ asking r [] ≡ requestOf (beside (now (w .entry)) alone) ⌝ }
+    ensures { λ r. ⌜ r ≡ wordOf (beside (now (w .entry)) alone) ⌝ }
 {
     if is_word(w, b"end") {
         return Word::Call(Quiet::End);
@@ -84,7 +57,7 @@ fn alone(w: &[u8]) -> Word
 }
 
 fn reading(room: u32) -> Word
-    ensures { λ r. ⌜ asking r [] ≡ requestOf (reading room) ⌝ }
+    ensures { λ r. ⌜ r ≡ wordOf (reading room) ⌝ }
 {
     if LARGEST_ROOM < room {
         return Word::Bad;
@@ -94,7 +67,7 @@ fn reading(room: u32) -> Word
 
 // The words that take a number.
 fn numbered(w: &[u8], n: u32) -> Word
-    ensures { λ r. ⌜ asking r [] ≡ requestOf (beside (now (w .entry)) (numbered n)) ⌝ }
+    ensures { λ r. ⌜ r ≡ wordOf (beside (now (w .entry)) (numbered n)) ⌝ }
 {
     if is_word(w, b"create") {
         return Word::Call(Quiet::Create(n));
@@ -126,35 +99,28 @@ fn numbered(w: &[u8], n: u32) -> Word
     Word::Bad
 }
 
-// A word with the bytes that a line spells.
-fn carried(word: Word, hex: &[u8]) -> Request
-    ensures { λ r. ⌜ r ≡ carried word (bytes (now (hex .entry))) ⌝ }
+fn sending(m: u32, hex: &[u8]) -> Word
+    ensures { λ r. ⌜ r ≡ wordOf (sending m (now (hex .entry))) ⌝ }
 {
-    let read = read_bytes(hex);
-    if read.good {
-        let bytes = read.bytes;
-        return Request {
-            word,
-            bytes,
-            length: read.length,
-        };
-    }
-    bad()
+    let Number::Is(n) = count_bytes(hex) else {
+        return Word::Bad;
+    };
+    Word::Send(m, n)
 }
 
 // The words that take a number and one thing more.
-fn followed(w: &[u8], n: u32, more: &[u8]) -> Request
-    ensures { λ r. ⌜ r ≡ requestOf (beside (now (w .entry)) (followed n (now (more .entry)))) ⌝ }
+fn followed(w: &[u8], n: u32, more: &[u8]) -> Word
+    ensures { λ r. ⌜ r ≡ wordOf (beside (now (w .entry)) (followed n (now (more .entry)))) ⌝ }
 {
     if is_word(w, b"send") {
-        return carried(Word::Send(n), more);
+        return sending(n, more);
     }
-    bad()
+    Word::Bad
 }
 
 // The words that take three numbers.
 fn thrice(w: &[u8], a: u32, b: u32, c: u32) -> Word
-    ensures { λ r. ⌜ asking r [] ≡ requestOf (beside (now (w .entry)) (thrice a b c)) ⌝ }
+    ensures { λ r. ⌜ r ≡ wordOf (beside (now (w .entry)) (thrice a b c)) ⌝ }
 {
     if is_word(w, b"mailbox") {
         return Word::Call(Quiet::Mailbox(a, b, c));
@@ -163,7 +129,7 @@ fn thrice(w: &[u8], a: u32, b: u32, c: u32) -> Word
 }
 
 fn of_two(w: &[u8], digits: &[u8]) -> Word
-    ensures { λ r. ⌜ asking r [] ≡ requestOf (ofTwo (now (w .entry)) (now (digits .entry))) ⌝ }
+    ensures { λ r. ⌜ r ≡ wordOf (ofTwo (now (w .entry)) (now (digits .entry))) ⌝ }
 {
     let Number::Is(n) = read_number(digits) else {
         return Word::Bad;
@@ -171,17 +137,17 @@ fn of_two(w: &[u8], digits: &[u8]) -> Word
     numbered(w, n)
 }
 
-fn of_three(w: &[u8], digits: &[u8], more: &[u8]) -> Request
-    ensures { λ r. ⌜ r ≡ requestOf (ofThree (now (w .entry)) (now (digits .entry)) (now (more .entry))) ⌝ }
+fn of_three(w: &[u8], digits: &[u8], more: &[u8]) -> Word
+    ensures { λ r. ⌜ r ≡ wordOf (ofThree (now (w .entry)) (now (digits .entry)) (now (more .entry))) ⌝ }
 {
     let Number::Is(n) = read_number(digits) else {
-        return bad();
+        return Word::Bad;
     };
     followed(w, n, more)
 }
 
 fn of_four(w: &[u8], x: &[u8], y: &[u8], z: &[u8]) -> Word
-    ensures { λ r. ⌜ asking r [] ≡ requestOf (ofFour (now (w .entry)) (now (x .entry)) (now (y .entry)) (now (z .entry))) ⌝ }
+    ensures { λ r. ⌜ r ≡ wordOf (ofFour (now (w .entry)) (now (x .entry)) (now (y .entry)) (now (z .entry))) ⌝ }
 {
     let Number::Is(a) = read_number(x) else {
         return Word::Bad;
@@ -196,8 +162,8 @@ fn of_four(w: &[u8], x: &[u8], y: &[u8], z: &[u8]) -> Word
 }
 
 // A line of more than two words: w and x, and what follows the second space.
-fn three_or_more(w: &[u8], x: &[u8], rest: &[u8]) -> Request
-    ensures { λ r. ⌜ r ≡ requestOf (sentence (now (w .entry) ∷ now (x .entry) ∷ words (now (rest .entry)))) ⌝ }
+fn three_or_more(w: &[u8], x: &[u8], rest: &[u8]) -> Word
+    ensures { λ r. ⌜ r ≡ wordOf (sentence (now (w .entry) ∷ now (x .entry) ∷ words (now (rest .entry)))) ⌝ }
 {
     let end = first_space(rest);
     if end == rest.len() {
@@ -207,29 +173,29 @@ fn three_or_more(w: &[u8], x: &[u8], rest: &[u8]) -> Request
     let y = &rest[..end];
     let z = &rest[start..];
     if first_space(z) < z.len() {
-        return bad();
+        return Word::Bad;
     }
-    asking(of_four(w, x, y, z))
+    of_four(w, x, y, z)
 }
 
 // A line of more than one word: w, and what follows the first space.
-fn two_or_more(w: &[u8], rest: &[u8]) -> Request
-    ensures { λ r. ⌜ r ≡ requestOf (sentence (now (w .entry) ∷ words (now (rest .entry)))) ⌝ }
+fn two_or_more(w: &[u8], rest: &[u8]) -> Word
+    ensures { λ r. ⌜ r ≡ wordOf (sentence (now (w .entry) ∷ words (now (rest .entry)))) ⌝ }
 {
     let end = first_space(rest);
     if end == rest.len() {
-        return asking(of_two(w, rest));
+        return of_two(w, rest);
     }
     let start = end + 1;
     three_or_more(w, &rest[..end], &rest[start..])
 }
 
-pub(crate) fn sentence(line: &[u8]) -> Request
-    ensures { λ r. ⌜ r ≡ requestOf (sentence (words (now (line .entry)))) ⌝ }
+pub(crate) fn sentence(line: &[u8]) -> Word
+    ensures { λ r. ⌜ r ≡ wordOf (sentence (words (now (line .entry)))) ⌝ }
 {
     let end = first_space(line);
     if end == line.len() {
-        return asking(alone(line));
+        return alone(line);
     }
     let start = end + 1;
     two_or_more(&line[..end], &line[start..])

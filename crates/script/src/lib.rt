@@ -1,19 +1,19 @@
-// One line of a replay script: which order it is. The caller cuts the input into lines. Assumes nothing.
+// One line of a replay script: which order it is, and the bytes that it carries. The caller cuts the input into lines. Assumes nothing.
 pub mod calls;
-mod hex;
+pub mod hex;
 pub mod numbers;
 mod words;
 
-pub use calls::Request;
+use crate::calls::Word;
 ghost use Rattle.script.specs.Request.{Tells};
 
-pub const LONGEST_LINE: usize = 1300;
+pub const LONGEST_LINE: usize = 8600;
 
-pub fn request(line: &[u8]) -> Request
+pub fn request(line: &[u8]) -> Word
     ensures { λ r. ⌜ Tells (now (line .entry)) r ⌝ }
 {
     if LONGEST_LINE < line.len() {
-        return calls::bad();
+        return Word::Bad;
     }
     calls::sentence(line)
 }

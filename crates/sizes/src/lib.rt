@@ -28,8 +28,8 @@ pub const BUFFER_SIZE: usize = 512;
 
 pub const STORE_SIZE: usize = BUFFERS * BUFFER_SIZE;
 
-// Bytes of a message at most.
-pub const LONGEST: usize = BUFFER_SIZE;
+// Bytes of a message at most: those of eight buffers.
+pub const LONGEST: usize = 4096;
 
 pub const SEMAPHORES: usize = 16;
 

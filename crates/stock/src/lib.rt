@@ -1,8 +1,9 @@
-// Whether the mail of a state is sound by itself: every buffer is queued once, in one hand, or free.
+// Whether the mail of a state is sound by itself: every buffer is free, or one of a message that is queued once or in one hand.
 // Nothing is assumed of what stands in the fields.
 use bits::has_bit;
-use boxes::Boxes;
 use boxes::bytes_of;
+use chains::chained;
+use chains::needs;
 use habits::capacity_of;
 use mail::Mail;
 use rings::Places;
@@ -12,15 +13,18 @@ use sizes::Bids;
 use sizes::PROCESSES;
 use sizes::Pids;
 ghost use mathlib.Core.Path.{_≡_};
-ghost use mathlib.Core.List.{map};
+ghost use mathlib.Core.List.{List, map};
+ghost use Prim.Native.Nat.{ℕ};
 ghost use lib.ListN.{length};
+ghost use Rattle.bits.specs.Word.{bits};
+ghost use Rattle.rings.specs.Walk.{tables};
 ghost use Rattle.rings.specs.Decides.{Decides};
 ghost use Rattle.plain.specs.Sizes.{buffers};
-ghost use Rattle.boxes.specs.Box.{num, tablesOf};
+ghost use Rattle.boxes.specs.Box.{num};
 ghost use Rattle.habits.specs.Tables.{capacityIn};
 ghost use Rattle.mail.specs.Carries.{numbers};
 ghost use Rattle.stock.specs.Stock.{Decision};
-ghost use Rattle.stock.specs.Tests.{AllBuffers, BufferFits, Few, Grasped, Handed, Queued};
+ghost use Rattle.stock.specs.Tests.{AllBuffers, BufferFits, Few, Grasped, Handed, MessagesFit, Queued};
 
 const MAILBOXES: u32 = sizes::MAILBOXES as u32;
 
@@ -28,29 +32,23 @@ const NODES: usize = sizes::BUFFERS + sizes::MAILBOXES;
 
 const LONGEST: u16 = sizes::LONGEST as u16;
 
-// The place of a buffer in a hand. Elsewhere it is 0 for nowhere, m + 1 for mailbox m.
+// The place of a buffer in which a message in a hand begins. Elsewhere it is m + 1 for one in mailbox m, 0 where none begins.
 const IN_HAND: u8 = sizes::MAILBOXES as u8 + 1;
 
-// Whether the tables hold rings, and the place of each buffer that is queued.
-fn queued(boxes: Boxes) -> Places
-    ensures { λ r. ⌜ Queued (tablesOf boxes) (r .ok) (r .at) ⌝ }
+// Whether the links, as bytes, hold rings, and the place of each buffer that is queued.
+fn queued(next: &[u8; NODES], prev: &[u8; NODES]) -> Places
+    ensures { λ r. ⌜ Queued (tables (now (next .entry)) (now (prev .entry))) (r .ok) (r .at) ⌝ }
 {
-    let n = boxes.next;
-    let p = boxes.prev;
-    let next = bytes_of(n);
-    let prev = bytes_of(p);
-    rings::standing(&next, &prev, BUFFERS)
+    rings::standing(next, prev, BUFFERS)
 }
 
-// Whether no mailbox holds more than it takes.
-fn few(boxes: Boxes, capacity: [u8; sizes::MAILBOXES]) -> bool
-    ensures { λ r. ⌜ Decides r (Few (tablesOf boxes) (capacityIn capacity)) ⌝ }
+// Whether no mailbox holds more than it takes, by the links on: those back are not read.
+fn few(next: &[u8; NODES], capacity: [u8; sizes::MAILBOXES]) -> bool
+    ensures { λ r. ⌜ ((prev : List ℕ) → Decides r (Few (tables (now (next .entry)) prev) (capacityIn capacity))) ⌝ }
 {
-    let links = boxes.next;
-    let next = bytes_of(links);
     let mut m = 0;
     while m < MAILBOXES {
-        if boxes::at_least(&next, m, capacity_of(capacity, m) + 1) {
+        if boxes::at_least(next, m, capacity_of(capacity, m) + 1) {
             return false;
         }
         m += 1;
@@ -93,45 +91,58 @@ fn handed(at: [u8; BUFFERS], hand: [Bid; PROCESSES], full: Pids) -> Places
     Places { ok: true, at: s }
 }
 
-// Whether a buffer at this place has a length and a bit that it may have there.
-fn buffer_fits(place: u8, length: u16, free: bool) -> bool
-    ensures { λ r. ⌜ Decides r (BufferFits place length free) ⌝ }
+// Whether a buffer at this place has a length that it may have there.
+fn buffer_fits(place: u8, length: u16) -> bool
+    ensures { λ r. ⌜ Decides r (BufferFits place length) ⌝ }
 {
     if place == 0 {
-        if length != 0 {
-            return false;
-        }
-        return free;
+        return length == 0;
     }
-    if LONGEST < length {
-        return false;
-    }
-    !free
+    length <= LONGEST
 }
 
 // Whether every buffer does. All are asked, with no early exit: so compiled, several at once.
-fn buffers_fit(at: [u8; BUFFERS], length: [u16; BUFFERS], free: Bids) -> bool
-    ensures { λ r. ⌜ Decides r (AllBuffers at length (free .0)) ⌝ }
+fn buffers_fit(at: [u8; BUFFERS], length: [u16; BUFFERS]) -> bool
+    ensures { λ r. ⌜ Decides r (AllBuffers at length) ⌝ }
 {
     let mut all = true;
     let mut b = 0;
     while b < BUFFERS {
-        all = all & buffer_fits(at[b], length[b], has_bit(free.0, b as u32));
+        all = all & buffer_fits(at[b], length[b]);
         b += 1;
     }
     all
+}
+
+// Whether the messages have lengths that they may have, and as many buffers as these need: all that are not free.
+fn messages_fit(
+    at: [u8; BUFFERS],
+    length: [u16; BUFFERS],
+    chain: [Bid; BUFFERS],
+    free: Bids,
+) -> bool
+    ensures { λ r. ⌜ Decides r (MessagesFit at length (map num chain) (bits (free .0))) ⌝ }
+{
+    if !buffers_fit(at, length) {
+        return false;
+    }
+    let need = needs(at, length);
+    chained(chain, need, free)
 }
 
 // Whether k holds sound mail, where each mailbox takes as many messages as `capacity` has for it.
 pub fn stocked(k: Mail, capacity: [u8; sizes::MAILBOXES]) -> bool
     ensures { λ r. ⌜ Decision (numbers k) (capacityIn capacity) r ⌝ }
 {
-    let boxes = k.boxes;
-    let q = queued(boxes);
+    let on = k.boxes.next;
+    let back = k.boxes.prev;
+    let next = bytes_of(on);
+    let prev = bytes_of(back);
+    let q = queued(&next, &prev);
     if !q.ok {
         return false;
     }
-    if !few(boxes, capacity) {
+    if !few(&next, capacity) {
         return false;
     }
     let in_boxes = q.at;
@@ -142,5 +153,6 @@ pub fn stocked(k: Mail, capacity: [u8; sizes::MAILBOXES]) -> bool
     }
     let at = h.at;
     let length = k.length;
-    buffers_fit(at, length, k.free)
+    let chain = k.chain;
+    messages_fit(at, length, chain, k.free)
 }

@@ -7,7 +7,7 @@ ghost use Rattle.plain.specs.Calls.{on, noClass, noMailbox, noSemaphore};
 ghost use Rattle.plain.specs.Listing.{fewRows};
 ghost use Rattle.plain.specs.Mailboxes.{noSize};
 ghost use Rattle.plain.specs.Start.{startRefusals};
-ghost use Rattle.plain.specs.Sizes.{processes, buffers, longest, highestCount, storeSize};
+ghost use Rattle.plain.specs.Sizes.{processes, longest, highestCount, storeSize};
 ghost use Rattle.verdicts.specs.Chain.{orElse, found};
 use sizes::Pid;
 
@@ -18,8 +18,6 @@ const CLASSES: u32 = sizes::CLASSES as u32;
 const MAILBOXES: u32 = sizes::MAILBOXES as u32;
 
 const MOST_QUEUED: u32 = sizes::MOST_QUEUED as u32;
-
-const BUFFERS: u32 = sizes::BUFFERS as u32;
 
 const SEMAPHORES: u32 = sizes::SEMAPHORES as u32;
 
@@ -132,16 +130,16 @@ pub fn on_mailbox(f: Facts, m: u32, capacity: u32, mode: u32, busy: bool) -> Ver
         .or(busy, 18)
 }
 
-// The mailbox refuses where it is full and does not drop; what it drops has left its buffer free.
-pub fn on_send(f: Facts, held: usize, m: u32, n: usize, refuses: bool, free: u32) -> Verdict
-    ensures { λ r. ⌜ r ≡ found (on 14 (not (f .sound)) ∷ on 15 (not (eqb held storeSize)) ∷ noMailbox m ∷ on 6 (ltb longest n) ∷ on 11 refuses ∷ on 12 (eqb free buffers) ∷ []) ⌝ }
+// The mailbox refuses where it is full and does not drop; too few buffers are free for the message once what it drops has left its own.
+pub fn on_send(f: Facts, held: usize, m: u32, n: usize, refuses: bool, few: bool) -> Verdict
+    ensures { λ r. ⌜ r ≡ found (on 14 (not (f .sound)) ∷ on 15 (not (eqb held storeSize)) ∷ noMailbox m ∷ on 6 (ltb longest n) ∷ on 11 refuses ∷ on 12 few ∷ []) ⌝ }
 {
     on_tick(f)
         .or(held != sizes::STORE_SIZE, 15)
         .or(MAILBOXES <= m, 3)
         .or(sizes::LONGEST < n, 6)
         .or(refuses, 11)
-        .or(free == BUFFERS, 12)
+        .or(few, 12)
 }
 
 pub fn on_receive(f: Facts, m: u32, hand: bool) -> Verdict

@@ -12,7 +12,8 @@ pub const HAND_EMPTY: u32 = 8;
 pub const TOO_LITTLE_ROOM: u32 = 9;
 pub const NO_UNUSED_PROCESS: u32 = 10;
 pub const MAILBOX_FULL: u32 = 11;
-pub const NO_FREE_BUFFER: u32 = 12;
+/// Fewer buffers are free than the message needs.
+pub const TOO_FEW_BUFFERS: u32 = 12;
 pub const COUNT_AT_LIMIT: u32 = 13;
 pub const NOT_SOUND: u32 = 14;
 pub const NOT_A_STORE: u32 = 15;

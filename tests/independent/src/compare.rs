@@ -19,7 +19,7 @@ pub enum Delivery {
 }
 
 /// So many bytes go one by one; more would only take longer.
-const SINGLE_BYTES: usize = 100_000;
+const SINGLE_BYTES: usize = 50_000;
 /// The longest piece.
 const PIECE_BYTES: usize = 4_099;
 /// Output beyond the expected one is read so far and no further.

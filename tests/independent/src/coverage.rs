@@ -1,7 +1,8 @@
-//! What random scripts reached: the slices named, the codes answered, the names taken, what was met at mailboxes, the reasons
-//! told and the deepest states, to show that they are worth comparing.
+//! What random scripts reached: the slices named, the codes answered, the names taken, what was met at mailboxes, what was done
+//! with buffers, the reasons told and the deepest states, to show that they are worth comparing.
 
 use crate::answer::*;
+use crate::buffers;
 use crate::call::Call;
 use crate::desk::Desk;
 use crate::grammar::{named_slice, parse};
@@ -23,6 +24,8 @@ pub struct Coverage {
     pub codes: BTreeMap<u32, u64>,
     pub most_live: usize,
     pub most_buffers: usize,
+    /// Of messages that have more than one.
+    pub most_buffers_of_pages: usize,
     pub fullest_mailbox: usize,
     pub most_waiters_at_a_mailbox: usize,
     pub most_waiters_at_a_semaphore: usize,
@@ -44,6 +47,8 @@ pub struct Coverage {
     pub names: BTreeMap<(&'static str, Kind), u64>,
     /// How often a call met each kind of thing at a mailbox.
     pub mailboxes: BTreeMap<&'static str, u64>,
+    /// How often a call did each kind of thing with buffers.
+    pub buffers: BTreeMap<String, u64>,
     /// Bad lines that are nearly settings of mailboxes.
     pub near_mailboxes: BTreeSet<&'static str>,
 }
@@ -143,6 +148,9 @@ impl Coverage {
         for kind in history.kinds(kernel, call) {
             *self.mailboxes.entry(kind).or_default() += 1;
         }
+        for kind in buffers::kinds(kernel, call) {
+            *self.buffers.entry(kind).or_default() += 1;
+        }
     }
 
     fn add_question(&mut self, kernel: &Kernel, name: u32) {
@@ -164,7 +172,8 @@ impl Coverage {
             *most = now.fold(*most, T::max);
         }
         raise(&mut self.most_live, [kernel.processes.iter().flatten().count()].into_iter());
-        raise(&mut self.most_buffers, [kernel.held().count()].into_iter());
+        raise(&mut self.most_buffers, [held(kernel, 1)].into_iter());
+        raise(&mut self.most_buffers_of_pages, [held(kernel, 2)].into_iter());
         raise(&mut self.fullest_mailbox, kernel.mailboxes.iter().map(|mailbox| mailbox.messages.len()));
         raise(&mut self.most_waiters_at_a_mailbox, kernel.mailboxes.iter().map(|mailbox| mailbox.waiters.len()));
         raise(&mut self.most_waiters_at_a_semaphore, kernel.semaphores.iter().map(|semaphore| semaphore.waiters.len()));
@@ -177,8 +186,8 @@ impl Coverage {
 
     /// What of all that there is to reach was not reached; empty is good.
     pub fn missing(&self) -> Vec<String> {
-        let wanted = [self.of_codes(), self.of_states(), self.of_questions(), self.of_slices(), self.of_names(), self.of_mailboxes()];
-        wanted.into_iter().flatten().filter(|(reached, _)| !reached).map(|(_, what)| what).collect()
+        let of_calls = [self.of_codes(), self.of_slices(), self.of_names(), self.of_mailboxes(), self.of_buffers()];
+        of_calls.into_iter().chain([self.of_states(), self.of_questions()]).flatten().filter(|(reached, _)| !reached).map(|(_, what)| what).collect()
     }
 
     fn of_codes(&self) -> Vec<Wanted> {
@@ -191,6 +200,7 @@ impl Coverage {
             (self.bad_lines > 0, "a bad line"),
             (self.most_live == PROCESSES - 1, "31 live processes"),
             (self.most_buffers == BUFFERS, "32 buffers held"),
+            (self.most_buffers_of_pages == BUFFERS, "32 buffers held by pages"),
             (self.fullest_mailbox == LARGEST_CAPACITY, "a mailbox with 32 messages"),
             (self.most_waiters_at_a_mailbox >= 5, "5 waiters at a mailbox"),
             (self.most_waiters_at_a_semaphore >= 5, "5 waiters at a semaphore"),
@@ -227,6 +237,15 @@ impl Coverage {
         let lines = NEAR_MAILBOXES.map(|line| (self.near_mailboxes.contains(line), format!("the bad line: {line}")));
         kinds.chain(lines).collect()
     }
+
+    fn of_buffers(&self) -> Vec<Wanted> {
+        buffers::in_scripts().into_iter().map(|kind| (self.buffers.contains_key(&kind), format!("with buffers: {kind}"))).collect()
+    }
+}
+
+/// How many buffers messages have that have so many at least.
+fn held(kernel: &Kernel, least: usize) -> usize {
+    kernel.held().map(|message| message.buffers.len()).filter(|&buffers| buffers >= least).sum()
 }
 
 /// Whether something that must come up did, and what it is.
@@ -244,9 +263,10 @@ impl fmt::Display for Coverage {
         writeln!(out, "{}: {} lines, {} bad, codes {}", styles.join(" "), self.lines, self.bad_lines, codes.join(" "))?;
         write!(
             out,
-            "  at most {} live, {} buffers, {} in a mailbox, {} waiters at a mailbox, {} at a semaphore, count {}; preempted after {} lines",
+            "  at most {} live, {} buffers, {} of pages, {} in a mailbox, {} waiters at a mailbox, {} at a semaphore, count {}; preempted after {} lines",
             self.most_live,
             self.most_buffers,
+            self.most_buffers_of_pages,
             self.fullest_mailbox,
             self.most_waiters_at_a_mailbox,
             self.most_waiters_at_a_semaphore,
@@ -261,6 +281,8 @@ impl fmt::Display for Coverage {
         let names: Vec<String> = self.names.iter().map(|((call, kind), times)| format!("{call} {kind:?}:{times}")).collect();
         writeln!(out, "  names {}", names.join(" "))?;
         let mailboxes: Vec<String> = self.mailboxes.iter().map(|(kind, times)| format!("{kind}:{times}")).collect();
-        write!(out, "  at mailboxes {}; {} lines that are nearly settings", mailboxes.join("; "), self.near_mailboxes.len())
+        writeln!(out, "  at mailboxes {}; {} lines that are nearly settings", mailboxes.join("; "), self.near_mailboxes.len())?;
+        let buffers: Vec<String> = self.buffers.iter().map(|(kind, times)| format!("{kind}:{times}")).collect();
+        write!(out, "  with buffers {}", buffers.join("; "))
     }
 }

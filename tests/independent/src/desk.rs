@@ -159,16 +159,97 @@ mod tests {
 
     #[test]
     fn message_sizes() {
-        let send = |mailbox: u32, length: usize| format!("send {mailbox} {}", "5a".repeat(length));
-        answers(&send(0, 512), "0 0 0");
-        answers(&send(0, 513), "6 0 0");
-        answers(&send(0, 600), "6 0 0");
-        answers(&send(0, 601), "bad");
-        answers(&send(16, 513), "3 0 0");
+        for (length, answer) in [(512, "0 0 0"), (513, "0 0 0"), (4_096, "0 0 0"), (4_097, "6 0 0"), (4_200, "6 0 0"), (4_201, "bad")] {
+            answers(&send(0, length), answer);
+        }
+        answers(&send(16, 4_096), "3 0 0");
+        answers(&send(16, 4_097), "3 0 0");
+        for length in [511, 512, 513, 1_024, 1_025, 4_095, 4_096] {
+            answers(
+                &format!("create 1, {}, receive 0, read {}, read {length}, read 4096", send(0, length), length - 1),
+                &format!("0 257 1, 0 0 1, 0 {length} 1, 9 {length} 1, 0 {length} 1 {0}, 0 {length} 1 {0}", "5a".repeat(length)),
+            );
+        }
+        // What is too long is not there.
         answers(
-            &format!("create 1, {}, receive 0, read 511, read 512, {}, release, receive 0", send(0, 512), send(0, 513)),
-            &format!("0 257 1, 0 0 1, 0 512 1, 9 512 1, 0 512 1 {}, 6 0 1, 0 0 1, 32 0 0", "5a".repeat(512)),
+            &format!("create 1, {}, receive 0, read 4096, read 4097, {}, release, receive 0", send(0, 4_096), send(0, 4_097)),
+            &format!("0 257 1, 0 0 1, 0 4096 1, 0 4096 1 {}, bad, 6 0 1, 0 0 1, 32 0 0", "5a".repeat(4_096)),
         );
+    }
+
+    /// Sends so many bytes; which ones doesn't matter.
+    fn send(mailbox: u32, length: usize) -> String {
+        format!("send {mailbox} {}", if length == 0 { "-".to_string() } else { "5a".repeat(length) })
+    }
+
+    /// Answers to sends to mailboxes, each with its code, while 0 runs.
+    fn sends(before: &str, list: &[(u32, usize, u32)]) {
+        let script: Vec<String> = list.iter().map(|&(mailbox, length, _)| send(mailbox, length)).collect();
+        let expected: Vec<String> = list.iter().map(|(_, _, code)| format!("{code} 0 0")).collect();
+        answers(&format!("{before}{}", script.join(", ")), &format!("{}{}", "0 0 0, ".repeat(before.matches(", ").count()), expected.join(", ")));
+    }
+
+    #[test]
+    fn pages_take_as_many_buffers_as_they_need() {
+        // 8, 8, 8 and 7; then one is left.
+        let most = [(0, 4_096, 0), (0, 4_096, 0), (0, 4_096, 0), (0, 3_584, 0)];
+        sends("", &[&most[..], &[(1, 513, 12), (1, 4_096, 12), (1, 512, 0), (1, 0, 12), (1, 1, 12)]].concat());
+        sends("", &[&most[..], &[(1, 0, 0), (1, 0, 12)]].concat());
+        // 11 comes before 12.
+        sends("mailbox 0 4 0, ", &[&most[..], &[(0, 4_096, 11), (0, 0, 11), (1, 1_024, 12)]].concat());
+        // 513 bytes need two: 16 of them fill the store.
+        let of_two: Vec<(u32, usize, u32)> = (0..16).map(|number| (number, 513, 0)).collect();
+        sends("", &[&of_two[..], &[(0, 0, 12)]].concat());
+        let of_three: Vec<(u32, usize, u32)> = (0..10).map(|number| (number, 1_025, 0)).collect();
+        sends("", &[&of_three[..], &[(10, 1_025, 12), (10, 1_024, 0), (11, 0, 12)]].concat());
+    }
+
+    #[test]
+    fn pages_are_dropped_only_for_one_that_is_taken() {
+        // Mailbox 5 has three buffers, and three are free: 7 are one too many, with the drop; 6 are not.
+        let filled = [(5, 1_025, 0), (0, 4_096, 0), (0, 4_096, 0), (0, 4_096, 0), (0, 1_024, 0)];
+        sends("mailbox 5 1 1, ", &[&filled[..], &[(5, 4_096, 12), (5, 3_073, 12), (5, 3_072, 0), (5, 3_073, 12), (5, 3_072, 0)]].concat());
+        // After 12 the oldest is there, and whole.
+        let script: Vec<String> = filled.iter().map(|&(mailbox, length, _)| send(mailbox, length)).collect();
+        answers(
+            &format!("mailbox 5 1 1, {}, {}, create 1, receive 5, read 4096, release, {}", script.join(", "), send(5, 3_073), send(5, 3_072)),
+            &format!("{}12 0 0, 0 257 1, 0 1025 1, 0 1025 1 {}, 0 0 1, 0 0 1", "0 0 0, ".repeat(6), "5a".repeat(1_025)),
+        );
+        // One message is dropped and no more: of two of one buffer each, one does not make room for two.
+        let ones = [(5, 1, 0), (5, 2, 0), (0, 4_096, 0), (0, 4_096, 0), (0, 4_096, 0), (0, 3_072, 0)];
+        sends("mailbox 5 2 1, ", &[&ones[..], &[(5, 513, 12), (5, 512, 0), (5, 513, 12)]].concat());
+        // A page is dropped for a short message, and what it gave back is free.
+        sends("mailbox 5 1 1, ", &[(5, 4_096, 0), (0, 4_096, 0), (0, 4_096, 0), (0, 4_096, 0), (1, 0, 12), (5, 0, 0), (1, 3_584, 0), (1, 0, 12)]);
+        // Where it is not full nothing is dropped, however few are free.
+        sends("mailbox 5 2 1, ", &[(5, 4_096, 0), (0, 4_096, 0), (0, 4_096, 0), (0, 4_096, 0), (5, 1, 12), (5, 4_096, 12)]);
+    }
+
+    #[test]
+    fn pages_are_given_back_whole() {
+        let filled = [send(0, 4_096), send(1, 4_096), send(1, 4_096), send(1, 4_096)].join(", ");
+        for (way, answered) in [("release", "0 0 1"), ("end", "0 0 0"), ("stop 257", "0 0 0")] {
+            let running = &answered[4..];
+            answers(
+                &format!("create 1, {filled}, receive 0, {}, {way}, {}, {}", send(2, 0), send(2, 4_096), send(2, 0)),
+                &format!("0 257 1, {}0 4096 1, 12 0 1, {answered}, 0 0 {running}, 12 0 {running}", "0 0 1, ".repeat(4)),
+            );
+        }
+        // A waiter gets a page in hand; waiting at a semaphore it keeps it, until it is stopped.
+        answers(
+            &format!("create 1, receive 0, {filled}, read 4096, wait 3, {}, stop 257, {}, {}", send(2, 0), send(2, 4_096), send(2, 0)),
+            &format!("0 257 1, 32 0 0, {}0 4096 1 {}, 32 0 0, 12 0 0, 0 0 0, 0 0 0, 12 0 0", "0 0 1, ".repeat(4), "5a".repeat(4_096)),
+        );
+    }
+
+    /// A page lies where it can, and each of its bytes comes back in its place.
+    #[test]
+    fn pages_between_other_messages() {
+        let bytes: Vec<u8> = (0..2_000).map(|i| (i % 251) as u8).collect();
+        let script = format!("create 1, send 0 01, send 1 02, send 0 03, send 1 04, receive 0, release, receive 0, release, send 2 {}, \
+                              receive 1, read 1, release, receive 1, read 1, release, receive 2, read 2000", hex(&bytes));
+        let expected = format!("0 257 1, 0 0 1, 0 0 1, 0 0 1, 0 0 1, 0 1 1, 0 0 1, 0 1 1, 0 0 1, 0 0 1, \
+                                0 1 1, 0 1 1 02, 0 0 1, 0 1 1, 0 1 1 04, 0 0 1, 0 2000 1, 0 2000 1 {}", hex(&bytes));
+        answers(&script, &expected);
     }
 
     #[test]
@@ -257,7 +338,7 @@ mod tests {
         turns("tick\nslice 3\n", "0 0 0\nbad\n", &[1, 1, 1, 1, 2]);
         turns("why 0\nslice 3\n", "0 0 0 running\nbad\n", &[1, 1, 1, 1, 2]);
         turns("\nslice 3\n", "bad\nbad\n", &[1, 1, 1, 1, 2]);
-        turns(&format!("{}\nslice 3\n", "x".repeat(5_000)), "bad\nbad\n", &[1, 1, 1, 1, 2]);
+        turns(&format!("{}\nslice 3\n", "x".repeat(30_000)), "bad\nbad\n", &[1, 1, 1, 1, 2]);
         for line in ["slice", "slice ", "slice 3 3", "slice 3 ", " slice 3", "slice  3", "slice 03", "slice 65536", "slice +3", "Slice 3", "slice 3\r"] {
             turns(&format!("{line}\n"), "bad\n", &[1, 1, 1, 1, 2]);
             turns(&format!("{line}\nslice 3\n"), "bad\nbad\n", &[1, 1, 1, 1, 2]);
@@ -318,7 +399,7 @@ mod tests {
         );
         // A message that is too long pushes nothing out.
         answers(
-            &format!("mailbox 5 1 1, create 1, send 5 01, send 5 {}, receive 5, read 1", "5a".repeat(513)),
+            &format!("mailbox 5 1 1, create 1, send 5 01, send 5 {}, receive 5, read 1", "5a".repeat(4_097)),
             "0 0 0, 0 257 1, 0 0 1, 6 0 1, 0 1 1, 0 1 1 01",
         );
         // Where someone waits, the message goes into the hand.
@@ -471,7 +552,7 @@ mod tests {
 
     #[test]
     fn long_lines() {
-        for length in [1_299, 1_300, 1_301, 1_302, 2_600, 2_601, 2_602, 3_000_000] {
+        for length in [1_300, 1_301, 8_599, 8_600, 8_601, 8_602, 17_200, 17_201, 17_202, 3_000_000] {
             let long = "x".repeat(length);
             check(&format!("{long}\ntick\n"), "bad\n0 0 0\n");
             check(&format!("tick\n{long}"), "0 0 0\nbad\n");
@@ -482,8 +563,8 @@ mod tests {
 
     #[test]
     fn input_in_pieces() {
-        let script = format!("slice 3\ncreate 2\n{}\n\ncreate 2\ntick\n{}\nread 1", "x".repeat(1_300), "y".repeat(5_000));
-        for size in [1, 2, 3, 7, 1_299, 1_300, 1_301, 1_302] {
+        let script = format!("slice 3\ncreate 2\n{}\n\ncreate 2\ntick\n{}\nread 1", "x".repeat(8_600), "y".repeat(30_000));
+        for size in [1, 2, 3, 7, 8_599, 8_600, 8_601, 8_602] {
             let mut output = Vec::new();
             replay(&mut io::BufReader::with_capacity(size, script.as_bytes()), &mut output).unwrap();
             assert_eq!(output, b"0 0 0\n0 257 1\nbad\nbad\n0 258 1\n0 0 1\nbad\n8 0 1\n", "pieces of {size}");

@@ -3,10 +3,11 @@
 use crate::call::Call;
 
 /// A line with more bytes is bad whatever it says.
-pub const LINE_BYTES: usize = 1_300;
+pub const LINE_BYTES: usize = 8_600;
 const NUMBER_LIMIT: u32 = 65_535;
-const ROOM_LIMIT: u32 = 512;
-const SENT_BYTES: usize = 600;
+const ROOM_LIMIT: u32 = 4_096;
+/// A send has no more bytes than that.
+pub const SENT_BYTES: usize = 4_200;
 
 /// The call that a line, without its newline, stands for; None if the line is bad.
 pub fn parse(line: &[u8]) -> Option<Call> {
@@ -48,7 +49,7 @@ fn number(word: &[u8]) -> Option<u32> {
     (value <= NUMBER_LIMIT).then_some(value)
 }
 
-/// Lowercase hex pairs, at most 600 of them, or `-` for no bytes.
+/// Lowercase hex pairs, at most 4,200 of them, or `-` for no bytes.
 fn bytes(word: &[u8]) -> Option<Vec<u8>> {
     if word == b"-" {
         return Some(Vec::new());
@@ -143,19 +144,29 @@ mod tests {
 
     #[test]
     fn room_sizes() {
-        assert_eq!(parse(b"read 512"), Some(Call::Read(512)));
-        bad(b"read 513");
+        for room in [512, 513, 600, 4_095, 4_096] {
+            assert_eq!(parse(format!("read {room}").as_bytes()), Some(Call::Read(room)));
+        }
+        bad(b"read 4097");
+        bad(b"read 4200");
         bad(b"read 65535");
-        bad(b"read 0512");
+        bad(b"read 04096");
     }
 
     #[test]
     fn sent_bytes() {
         assert_eq!(parse(b"send 0 -"), Some(Call::Send(0, vec![])));
         assert_eq!(parse(b"send 0 00ff0a"), Some(Call::Send(0, vec![0, 255, 10])));
-        assert_eq!(parse(format!("send 0 {}", "ab".repeat(600)).as_bytes()), Some(Call::Send(0, vec![0xab; 600])));
-        bad(format!("send 0 {}", "ab".repeat(601)).as_bytes());
+        for length in [600, 601, 4_096, 4_097, 4_199, 4_200] {
+            assert_eq!(parse(format!("send 0 {}", "ab".repeat(length)).as_bytes()), Some(Call::Send(0, vec![0xab; length])));
+        }
+        bad(format!("send 0 {}", "ab".repeat(4_201)).as_bytes());
         bad(format!("send 0 {}a", "ab".repeat(600)).as_bytes());
+        bad(format!("send 0 {}a", "ab".repeat(4_199)).as_bytes());
+        bad(format!("send 0 {}a", "ab".repeat(4_200)).as_bytes());
+        bad(format!("send 0 {}", "ab".repeat(4_296)).as_bytes());
+        // 8,411 bytes, the longest line that is a call.
+        assert_eq!(parse(format!("send 65535 {}", "ab".repeat(4_200)).as_bytes()), Some(Call::Send(65_535, vec![0xab; 4_200])));
         for hex in ["4", "414", "4G", "g4", "AB", "aB", "Ab", "--", "-41", "41-", "0x41", "4 1", "41 ", " 41", "4:", "4/", "4`", "4\u{0}"] {
             bad(format!("send 0 {hex}").as_bytes());
         }

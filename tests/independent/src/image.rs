@@ -4,7 +4,7 @@ use crate::kernel::*;
 use crate::sound::is_sound;
 use std::collections::VecDeque;
 
-pub const IMAGE_BYTES: usize = 508;
+pub const IMAGE_BYTES: usize = 540;
 
 // Where each field begins.
 const RUNNING: usize = 0;
@@ -18,13 +18,14 @@ const MESSAGE_NEXT: usize = 211;
 const MESSAGE_BEFORE: usize = 259;
 const HAND: usize = 307;
 const FULL_BITS: usize = 339;
-const LENGTH: usize = 343;
-const FREE_BITS: usize = 407;
-const COUNT: usize = 411;
-pub const BIRTH_COUNT: usize = 443;
-pub const SLICE: usize = 475;
-pub const CAPACITY: usize = 476;
-pub const MODE: usize = 492;
+pub const LENGTH: usize = 343;
+pub const FREE_BITS: usize = 407;
+pub const CHAIN: usize = 411;
+const COUNT: usize = 443;
+pub const BIRTH_COUNT: usize = 475;
+pub const SLICE: usize = 507;
+pub const CAPACITY: usize = 508;
+pub const MODE: usize = 524;
 
 /// What the byte at this place belongs to.
 pub fn field_of(place: usize) -> &'static str {
@@ -39,6 +40,7 @@ pub fn field_of(place: usize) -> &'static str {
         (FULL_BITS, "bits"),
         (LENGTH, "length"),
         (FREE_BITS, "bits"),
+        (CHAIN, "chains"),
         (COUNT, "count"),
         (BIRTH_COUNT, "births"),
         (SLICE, "slice"),
@@ -61,7 +63,7 @@ pub fn image(kernel: &Kernel) -> [u8; IMAGE_BYTES] {
             area[TICKS + number] = process.ticks as u8;
         }
         if let Some(message) = kernel.hand_of(number) {
-            area[HAND + number] = message.buffer as u8;
+            area[HAND + number] = message.first() as u8;
         }
     }
 
@@ -70,17 +72,16 @@ pub fn image(kernel: &Kernel) -> [u8; IMAGE_BYTES] {
     let at_semaphores = kernel.semaphores.iter().map(|semaphore| &semaphore.waiters);
     let process_queues = ready.chain(at_mailboxes).chain(at_semaphores);
     write_rings(&mut area, PROCESS_NEXT, PROCESS_BEFORE, process_queues.map(|queue| queue.iter().copied().collect()).collect());
-    let message_queues = kernel.mailboxes.iter().map(|mailbox| mailbox.messages.iter().map(|message| message.buffer).collect());
+    let message_queues = kernel.mailboxes.iter().map(|mailbox| mailbox.messages.iter().map(Message::first).collect());
     write_rings(&mut area, MESSAGE_NEXT, MESSAGE_BEFORE, message_queues.collect());
 
     write_bits(&mut area, READY_BITS, |class| class < CLASSES && !kernel.ready[class].is_empty());
     write_bits(&mut area, UNUSED_BITS, |process| process != 0 && kernel.processes[process].is_none());
     write_bits(&mut area, FULL_BITS, |process| kernel.hand_of(process).is_some());
-    write_bits(&mut area, FREE_BITS, |buffer| kernel.held().all(|message| message.buffer != buffer));
+    let free = kernel.free_buffers();
+    write_bits(&mut area, FREE_BITS, |buffer| free.contains(&buffer));
 
-    for message in kernel.held() {
-        write_two(&mut area, LENGTH + 2 * message.buffer, message.bytes.len());
-    }
+    write_messages(&mut area, kernel);
     for (number, semaphore) in kernel.semaphores.iter().enumerate() {
         write_two(&mut area, COUNT + 2 * number, semaphore.count as usize);
     }
@@ -102,17 +103,17 @@ pub fn decide(area: &[u8]) -> Option<Kernel> {
 /// Gives the messages of a state their bytes from a store of 16,384 bytes.
 pub fn take_bytes(kernel: &mut Kernel, store: &[u8]) {
     for message in kernel.held_mut() {
-        let start = BUFFER_BYTES * message.buffer;
-        let length = message.bytes.len();
-        message.bytes.copy_from_slice(&store[start..start + length]);
+        for (buffer, part) in message.buffers.iter().zip(message.bytes.chunks_mut(BUFFER_BYTES)) {
+            let start = BUFFER_BYTES * buffer;
+            part.copy_from_slice(&store[start..start + part.len()]);
+        }
     }
 }
 
 /// Puts the messages of a state where they lie in a store of 16,384 bytes; the other bytes stay.
 pub fn lay_bytes(kernel: &Kernel, store: &mut [u8]) {
-    for message in kernel.held() {
-        let start = BUFFER_BYTES * message.buffer;
-        store[start..start + message.bytes.len()].copy_from_slice(&message.bytes);
+    for (start, part) in kernel.held().flat_map(Message::parts) {
+        store[start..start + part.len()].copy_from_slice(part);
     }
 }
 
@@ -129,6 +130,20 @@ fn write_rings(area: &mut [u8; IMAGE_BYTES], next: usize, before: usize, queues:
             area[next + last] = node as u8;
             area[before + node] = last as u8;
             last = node;
+        }
+    }
+}
+
+/// Each message has its length at its first buffer, and each of its buffers leads to the next one. The last leads to itself, and
+/// so does a free one.
+fn write_messages(area: &mut [u8; IMAGE_BYTES], kernel: &Kernel) {
+    for buffer in 0..BUFFERS {
+        area[CHAIN + buffer] = buffer as u8;
+    }
+    for message in kernel.held() {
+        write_two(area, LENGTH + 2 * message.first(), message.bytes.len());
+        for (buffer, next) in message.buffers.iter().zip(&message.buffers[1..]) {
+            area[CHAIN + buffer] = *next as u8;
         }
     }
 }
@@ -156,7 +171,7 @@ fn write_two(area: &mut [u8; IMAGE_BYTES], place: usize, number: usize) {
 fn read(area: &[u8; IMAGE_BYTES]) -> Option<Kernel> {
     let bit = |field: usize, number: usize| area[field + number / 8] >> (number % 8) & 1 == 1;
     let two = |place: usize| usize::from(area[place]) + 256 * usize::from(area[place + 1]);
-    let message = |buffer: usize| (buffer < BUFFERS).then(|| Message { buffer, bytes: vec![0; two(LENGTH + 2 * buffer)] });
+    let message = |first: usize| Some(Message { buffers: chain(area, first)?, bytes: vec![0; two(LENGTH + 2 * first)] });
 
     let mut kernel = Kernel { slice: u32::from(area[SLICE]), ..Kernel::fresh() };
     kernel.running = usize::from(area[RUNNING]);
@@ -171,8 +186,8 @@ fn read(area: &[u8; IMAGE_BYTES]) -> Option<Kernel> {
         kernel.ready[class] = ring(area, PROCESS_NEXT, class)?;
     }
     for number in 0..MAILBOXES {
-        let buffers = ring(area, MESSAGE_NEXT, number)?;
-        kernel.mailboxes[number].messages = buffers.into_iter().map(message).collect::<Option<_>>()?;
+        let first_buffers = ring(area, MESSAGE_NEXT, number)?;
+        kernel.mailboxes[number].messages = first_buffers.into_iter().map(message).collect::<Option<_>>()?;
         kernel.mailboxes[number].waiters = ring(area, PROCESS_NEXT, CLASSES + number)?;
         kernel.mailboxes[number].capacity = usize::from(area[CAPACITY + number]);
         kernel.mailboxes[number].mode = u32::from(area[MODE + number]);
@@ -197,4 +212,19 @@ fn ring(area: &[u8; IMAGE_BYTES], next: usize, queue: usize) -> Option<VecDeque<
         node = usize::from(area[next + node]);
     }
     Some(members)
+}
+
+/// The buffers of a message by its first one; None if they don't lead to one that leads to itself.
+fn chain(area: &[u8; IMAGE_BYTES], first: usize) -> Option<Vec<usize>> {
+    let mut buffers = vec![];
+    let mut buffer = first;
+    while buffer < BUFFERS && !buffers.contains(&buffer) {
+        buffers.push(buffer);
+        let next = usize::from(area[CHAIN + buffer]);
+        if next == buffer {
+            return Some(buffers);
+        }
+        buffer = next;
+    }
+    None
 }

@@ -1,6 +1,6 @@
 //! Lines that are bad, or nearly: what a desk may meet besides calls. A line made here may by chance be a call after all.
 
-use crate::grammar::LINE_BYTES;
+use crate::grammar::{LINE_BYTES, SENT_BYTES};
 use crate::random::Random;
 
 const NEAR_WORDS: [&str; 33] = [
@@ -82,8 +82,8 @@ fn bad_number(random: &mut Random) -> String {
             1 => format!("mailbox 5 {number} 1"),
             _ => format!("mailbox 5 3 {number}"),
         },
-        "read" if random.one_in(4) => format!("read {}", random.between(514, 65_535)),
-        "read" if random.one_in(2) => "read 513".to_string(),
+        "read" if random.one_in(4) => format!("read {}", random.between(4_098, 65_535)),
+        "read" if random.one_in(2) => "read 4097".to_string(),
         _ => format!("{word} {number}"),
     }
 }
@@ -91,8 +91,10 @@ fn bad_number(random: &mut Random) -> String {
 fn bad_bytes(random: &mut Random) -> String {
     let mailbox = random.below(16);
     match random.below(4) {
-        0 => format!("send {mailbox} {}", "5a".repeat(random.between(601, 644))),
-        1 => format!("send {mailbox} {}5", "5a".repeat(random.between(0, 600))),
+        0 if random.one_in(4) => format!("send {mailbox} {}", "5a".repeat(random.between(SENT_BYTES + 1, SENT_BYTES + 90))),
+        0 => format!("send {mailbox} {}", "5a".repeat(SENT_BYTES + 1)),
+        1 if random.one_in(4) => format!("send {mailbox} {}5", "5a".repeat(random.between(0, SENT_BYTES))),
+        1 => format!("send {mailbox} {}5", "5a".repeat(random.below(6))),
         _ => format!("send {mailbox} {}", random.pick(&NEAR_BYTES).unwrap_or("4")),
     }
 }
@@ -168,7 +170,7 @@ mod tests {
         let lines: Vec<Vec<u8>> = (0..20_000).map(|_| junk_line(&mut random, "create 3")).collect();
         assert!(lines.iter().all(|line| !line.contains(&b'\n')));
         assert!(lines.iter().filter(|line| parse(line).is_none()).count() > 18_000);
-        for length in 1_299..=1_302 {
+        for length in 8_599..=8_602 {
             assert!(lines.iter().any(|line| line.len() == length), "{length} bytes");
         }
         let giant = giant_line(&mut random, "tick");

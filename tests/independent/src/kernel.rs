@@ -1,12 +1,12 @@
-//! The kernel of document 01 as places and lists in order, its slice and the sizes of its mailboxes settings and its processes
-//! named as in document 02.
+//! The kernel of document 01 as places and lists in order, its slice and the sizes of its mailboxes settings, its processes
+//! named and its messages over several buffers as in document 02.
 //! Written to be obvious, not fast.
 //!
 //! A kernel here is always sound: it starts fresh and only its calls change it, or it comes from `image::decide`.
 //! So codes 14 and 15, which are for states and stores from outside, are not given here but in `lent`.
 
 use crate::answer::*;
-use std::collections::VecDeque;
+use std::collections::{HashSet, VecDeque};
 
 /// Processes are numbered 0 to 31; 0 is the null process.
 pub const PROCESSES: usize = 32;
@@ -21,6 +21,7 @@ pub const DROPS: u32 = 1;
 pub const BUFFERS: usize = 32;
 pub const BUFFER_BYTES: usize = 512;
 pub const STORE_BYTES: usize = BUFFERS * BUFFER_BYTES;
+pub const LONGEST_MESSAGE: usize = 4_096;
 pub const SEMAPHORES: usize = 16;
 pub const COUNT_LIMIT: u32 = 65_535;
 /// Ticks of a whole slice where none is named.
@@ -29,11 +30,28 @@ pub const LONGEST_SLICE: u32 = 255;
 /// A name is a number plus this many times its birth count, which is always less.
 pub const BIRTHS: u32 = 256;
 
-/// A message and the buffer that it lies in.
+/// A message and the buffers that it lies in: byte i in number i / 512 of them, at i % 512.
 #[derive(Clone, Debug, PartialEq, Eq)]
 pub struct Message {
-    pub buffer: usize,
+    pub buffers: Vec<usize>,
     pub bytes: Vec<u8>,
+}
+
+impl Message {
+    /// The buffer that stands for all of them in mailboxes and hands.
+    pub fn first(&self) -> usize {
+        self.buffers[0]
+    }
+
+    /// What lies in each of its buffers, and where that begins in the store.
+    pub fn parts(&self) -> impl Iterator<Item = (usize, &[u8])> {
+        self.buffers.iter().map(|buffer| BUFFER_BYTES * buffer).zip(self.bytes.chunks(BUFFER_BYTES))
+    }
+}
+
+/// In how many buffers a message of so many bytes lies.
+pub fn buffers_needed(length: usize) -> usize {
+    length.div_ceil(BUFFER_BYTES).max(1)
 }
 
 #[derive(Clone, Debug, PartialEq, Eq)]
@@ -65,6 +83,11 @@ impl Mailbox {
 
     pub fn is_busy(&self) -> bool {
         !self.messages.is_empty() || !self.waiters.is_empty()
+    }
+
+    /// The message that it loses if another is queued.
+    pub fn oldest_to_drop(&self) -> Option<&Message> {
+        self.messages.front().filter(|_| self.is_full() && self.mode == DROPS)
     }
 }
 
@@ -178,21 +201,21 @@ impl Kernel {
         if mailbox as usize >= MAILBOXES {
             return self.answer(NO_SUCH_MAILBOX, 0);
         }
-        if bytes.len() > BUFFER_BYTES {
+        if bytes.len() > LONGEST_MESSAGE {
             return self.answer(MESSAGE_TOO_LONG, 0);
         }
         let is_full = self.mailboxes[mailbox as usize].is_full();
         if is_full && self.mailboxes[mailbox as usize].mode == REFUSES {
             return self.answer(MAILBOX_FULL, 0);
         }
-        if is_full {
-            self.mailboxes[mailbox as usize].messages.pop_front();
-        }
-        let Some(buffer) = self.lowest_free_buffer() else {
-            return self.answer(NO_FREE_BUFFER, 0);
+        let Some(buffers) = self.buffers_for(mailbox, bytes.len()) else {
+            return self.answer(TOO_FEW_BUFFERS, 0);
         };
-        let message = Message { buffer, bytes: bytes.to_vec() };
+        let message = Message { buffers, bytes: bytes.to_vec() };
         let mailbox = &mut self.mailboxes[mailbox as usize];
+        if is_full {
+            mailbox.messages.pop_front();
+        }
         match mailbox.waiters.pop_front() {
             Some(waiter) => {
                 self.process(waiter).hand = Some(message);
@@ -379,16 +402,20 @@ impl Kernel {
         (1..PROCESSES).find(|&number| self.processes[number].is_none())
     }
 
-    pub fn lowest_free_buffer(&self) -> Option<usize> {
-        (0..BUFFERS).find(|&buffer| self.held().all(|message| message.buffer != buffer))
+    /// The buffers that no message lies in, the lowest first.
+    pub fn free_buffers(&self) -> Vec<usize> {
+        let held: HashSet<&usize> = self.held().flat_map(|message| &message.buffers).collect();
+        (0..BUFFERS).filter(|buffer| !held.contains(buffer)).collect()
     }
 
-    /// The buffer that a message to this mailbox takes, if there is one: the lowest free one, that of the message dropped for it
-    /// among them.
-    pub fn buffer_for(&self, mailbox: u32) -> Option<usize> {
-        let mailbox = self.mailboxes.get(mailbox as usize)?;
-        let dropped = mailbox.messages.front().filter(|_| mailbox.is_full() && mailbox.mode == DROPS);
-        self.lowest_free_buffer().into_iter().chain(dropped.map(|message| message.buffer)).min()
+    /// The buffers that a message of so many bytes to this mailbox takes, if there are enough: the lowest free ones, those of the
+    /// message dropped for it among them.
+    pub fn buffers_for(&self, mailbox: u32, length: usize) -> Option<Vec<usize>> {
+        let dropped = self.mailboxes.get(mailbox as usize)?.oldest_to_drop();
+        let mut free = self.free_buffers();
+        free.extend(dropped.into_iter().flat_map(|message| &message.buffers));
+        free.sort();
+        free.get(..buffers_needed(length)).map(<[usize]>::to_vec)
     }
 
     /// Every message there is, in hands and in mailboxes.

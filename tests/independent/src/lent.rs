@@ -82,14 +82,14 @@ mod tests {
             while let Some(line) = script.next_line() {
                 let Some(asked) = parse(&line) else { continue };
                 let before = store.clone();
-                let buffer = if let Call::Send(mailbox, _) = &asked { kernel.buffer_for(*mailbox) } else { None };
+                let buffers = if let Call::Send(mailbox, bytes) = &asked { kernel.buffers_for(*mailbox, bytes.len()) } else { None };
                 let expected = kernel.apply(&asked);
                 assert_eq!(call(&mut area, &mut store, &asked), expected, "seed {seed}, {asked:?}");
                 assert_eq!(area[..], image(&kernel));
-                // A send writes its own bytes in its buffer and no other.
+                // A send writes its own bytes in its buffers, byte i in number i / 512 of them, and no other.
                 let mut after = before;
-                if let (Call::Send(_, bytes), Some(buffer), DONE) = (&asked, buffer, expected.0.code) {
-                    after[512 * buffer..512 * buffer + bytes.len()].copy_from_slice(bytes);
+                if let (Call::Send(_, bytes), Some(buffers), DONE) = (&asked, buffers, expected.0.code) {
+                    bytes.iter().enumerate().for_each(|(i, byte)| after[512 * buffers[i / 512] + i % 512] = *byte);
                 }
                 assert!(store == after);
             }
@@ -99,7 +99,7 @@ mod tests {
     #[test]
     fn states_refused() {
         let mut store = vec![7; STORE_BYTES];
-        for length in [0, 1, 444, 475, 476, 477, 492, 507, 509] {
+        for length in [0, 1, 411, 443, 475, 476, 507, 508, 509, 524, 539, 541] {
             let mut area = vec![5; length];
             assert_eq!(fresh(&mut area), STATE_REFUSED);
             // 14 comes before 16.
@@ -124,7 +124,7 @@ mod tests {
         let mut area = vec![0; IMAGE_BYTES];
         fresh(&mut area);
         let usual = area.clone();
-        assert_eq!(usual[475], 5);
+        assert_eq!(usual[507], 5);
         // Whatever the area holds, also where 1 runs in it.
         call(&mut area, &mut [], &Call::Create(2));
         for content in [area, vec![0; IMAGE_BYTES], vec![255; IMAGE_BYTES]] {
@@ -136,9 +136,9 @@ mod tests {
             for slice in 1..=255 {
                 let mut area = content.clone();
                 assert_eq!(fresh_slice(&mut area, slice), FRESH_WRITTEN);
-                assert_eq!(area[..475], usual[..475]);
-                assert_eq!(u32::from(area[475]), slice);
-                assert_eq!(area[476..], usual[476..]);
+                assert_eq!(area[..507], usual[..507]);
+                assert_eq!(u32::from(area[507]), slice);
+                assert_eq!(area[508..], usual[508..]);
             }
         }
     }
@@ -150,7 +150,7 @@ mod tests {
         // 14 comes before 1, and by itself.
         assert_eq!(call(&mut area, &mut [], &Call::Why(32)), refused(NOT_SOUND));
         assert_eq!(call(&mut area, &mut [], &Call::Why(31)), refused(NOT_SOUND));
-        assert_eq!(call(&mut area[..507], &mut [], &Call::Why(32)), refused(NOT_SOUND));
+        assert_eq!(call(&mut area[..539], &mut [], &Call::Why(32)), refused(NOT_SOUND));
         fresh(&mut area);
         assert_eq!(call(&mut area, &mut [], &Call::Why(32)), refused(NO_SUCH_PROCESS));
         call(&mut area, &mut [], &Call::Create(2));
@@ -175,18 +175,18 @@ mod tests {
         }
         assert_eq!(area, before);
         assert_eq!(call(&mut area, &mut [], &Call::Stop(257)), answer(DONE, 0, 0));
-        assert_eq!(area[443..476], [&[0, 1][..], &[0; 30], &[5]].concat());
+        assert_eq!(area[475..508], [&[0, 1][..], &[0; 30], &[5]].concat());
         assert_eq!(call(&mut area, &mut [], &Call::Create(2)), answer(DONE, 513, 1));
-        assert_eq!(area[444], 2);
+        assert_eq!(area[476], 2);
         // 14 comes before 1, and 0 has no birth count.
-        area[443] = 1;
+        area[475] = 1;
         for name in [0, 256, 257, 513] {
             assert_eq!(call(&mut area, &mut [], &Call::Why(name)), (STATE_REFUSED, None));
             assert_eq!(call(&mut area, &mut [], &Call::Stop(name)), (STATE_REFUSED, None));
         }
         assert_eq!(listing(&area, &mut [Row::default(); 32]), STATE_REFUSED);
         fresh(&mut area);
-        assert_eq!(area[443..475], [0; 32]);
+        assert_eq!(area[475..507], [0; 32]);
     }
 
     #[test]
@@ -197,7 +197,7 @@ mod tests {
         assert_eq!(call(&mut area, &mut [], &Call::Mailbox(16, 33, 2)), (STATE_REFUSED, None));
         fresh(&mut area);
         let usual = area.clone();
-        assert_eq!(usual[476..], [[8; 16], [0; 16]].concat());
+        assert_eq!(usual[508..], [[8; 16], [0; 16]].concat());
         // Numbers that another width would take for right ones.
         for over in [256, 65_536, 0x8000_0000, 0xffff_ff00] {
             assert_eq!(call(&mut area, &mut [], &Call::Mailbox(over + 5, 3, 1)), answer(NO_SUCH_MAILBOX));
@@ -210,7 +210,7 @@ mod tests {
         assert_eq!(area, usual);
         assert_eq!(call(&mut area, &mut [], &Call::Mailbox(5, 3, 1)), answer(DONE));
         let mut expected = usual.clone();
-        (expected[476 + 5], expected[492 + 5]) = (3, 1);
+        (expected[508 + 5], expected[524 + 5]) = (3, 1);
         assert_eq!(area, expected);
         // Both fresh starts put it back.
         fresh_slice(&mut area, 5);
@@ -248,6 +248,42 @@ mod tests {
         assert_eq!(area[343..349], [4, 0, 2, 0, 0, 0]);
     }
 
+    /// A page lies in buffers 0, 2 and 3, since 1 is in mailbox 5. What is behind its end in its last buffer stays.
+    #[test]
+    fn what_a_page_writes() {
+        let mut area = vec![0; IMAGE_BYTES];
+        fresh(&mut area);
+        let mut store = vec![7; STORE_BYTES];
+        call(&mut area, &mut [], &Call::Create(1));
+        for asked in [Call::Send(0, vec![1]), Call::Send(5, vec![2; 512]), Call::Receive(0), Call::Release] {
+            assert_eq!(call(&mut area, &mut store, &asked).0.code, DONE);
+        }
+        let bytes: Vec<u8> = (0..1_500).map(|i| (i % 251) as u8).collect();
+        let mut expected = store.clone();
+        expected[..512].copy_from_slice(&bytes[..512]);
+        expected[1_024..2_012].copy_from_slice(&bytes[512..]);
+        assert_eq!(call(&mut area, &mut store, &Call::Send(5, bytes.clone())).0.code, DONE);
+        assert!(store == expected);
+        assert_eq!([area[211 + 32 + 5], area[211 + 1], area[211]], [1, 0, 37]);
+        assert_eq!(area[343..351], [220, 5, 0, 2, 0, 0, 0, 0]);
+        assert_eq!(area[407], 0b1111_0000);
+        assert_eq!(area[411..416], [2, 1, 3, 3, 4]);
+        // Read, it is whole, and so are the state and the store.
+        for asked in [Call::Receive(5), Call::Release, Call::Receive(5)] {
+            assert_eq!(call(&mut area, &mut store, &asked).0.code, DONE);
+        }
+        let before = area.clone();
+        let answer = |code: u32| Answer { code, number: 1_500, running: 1 };
+        assert_eq!(call(&mut area, &mut store, &Call::Read(1_499)), (answer(TOO_LITTLE_ROOM), None));
+        assert_eq!(call(&mut area, &mut store, &Call::Read(4_096)), (answer(DONE), Some(Told::Message(bytes))));
+        assert!(store == expected && area == before);
+        // Given back, its buffers lead to themselves and have no length.
+        assert_eq!(call(&mut area, &mut store, &Call::Release).0.code, DONE);
+        assert_eq!(area[343..351], [0; 8]);
+        assert_eq!(area[407..416], [255, 255, 255, 255, 0, 1, 2, 3, 4]);
+        assert!(store == expected);
+    }
+
     #[test]
     fn stores_refused() {
         let mut area = vec![0; IMAGE_BYTES];
@@ -257,7 +293,7 @@ mod tests {
             // 15 comes before 5, 3 and 6.
             let refused = Answer { code: NOT_A_STORE, number: 0, running: 0 };
             assert_eq!(call(&mut area, &mut store, &Call::Read(0)), (refused, None));
-            assert_eq!(call(&mut area, &mut store, &Call::Send(16, vec![1; 513])), (refused, None));
+            assert_eq!(call(&mut area, &mut store, &Call::Send(16, vec![1; 4_097])), (refused, None));
             assert_eq!(call(&mut area, &mut store, &Call::Receive(0)).0.code, NULL_RUNS);
             assert!(store.iter().all(|&byte| byte == 7));
         }

@@ -2,7 +2,9 @@
 //! and what is needed to compare other programs with it.
 
 pub mod answer;
+pub mod buffers;
 pub mod call;
+pub mod chains;
 pub mod compare;
 pub mod coverage;
 pub mod desk;
@@ -12,10 +14,13 @@ pub mod grammar;
 pub mod image;
 pub mod junk;
 pub mod kernel;
+mod kinds;
+pub mod lengths;
 pub mod lent;
 pub mod listing;
 pub mod mailboxes;
 pub mod names;
+mod openings;
 pub mod page;
 pub mod random;
 pub mod scripts;

@@ -3,6 +3,7 @@
 
 use crate::call::Call;
 use crate::kernel::*;
+use crate::kinds::{those, words, Kind};
 use crate::random::Random;
 use crate::sizes::{any_mailbox, capacity, mode, wrong_capacity, wrong_mode};
 use std::ops::RangeInclusive;
@@ -23,6 +24,8 @@ struct Past {
     was_full: bool,
     /// How many of its messages were there when it last dropped one, the one that came among them.
     spared: usize,
+    /// Whether its oldest message would have been dropped, but for too few buffers.
+    kept: bool,
 }
 
 /// What all of them have been through.
@@ -108,11 +111,17 @@ struct Sending<'a> {
     kernel: &'a Kernel,
     mailbox: &'a Mailbox,
     length: usize,
+    finds_buffers: bool,
 }
 
 impl Sending<'_> {
+    fn new(kernel: &Kernel, number: u32, length: usize) -> Option<Sending<'_>> {
+        let mailbox = kernel.mailboxes.get(number as usize)?;
+        Some(Sending { kernel, mailbox, length, finds_buffers: kernel.buffers_for(number, length).is_some() })
+    }
+
     fn fits(&self) -> bool {
-        self.length <= BUFFER_BYTES
+        self.length <= LONGEST_MESSAGE
     }
 
     fn is_refused(&self) -> bool {
@@ -120,7 +129,12 @@ impl Sending<'_> {
     }
 
     fn drops(&self) -> bool {
-        self.fits() && self.mailbox.is_full() && self.mailbox.mode == DROPS
+        self.fits() && self.mailbox.oldest_to_drop().is_some() && self.finds_buffers
+    }
+
+    /// Would drop a message, but does not find buffers enough then.
+    fn keeps(&self) -> bool {
+        self.fits() && self.mailbox.oldest_to_drop().is_some() && !self.finds_buffers
     }
 
     fn refused_at(&self, capacity: RangeInclusive<usize>) -> bool {
@@ -133,22 +147,22 @@ impl Sending<'_> {
 
     /// The lowest free buffer, if the mailbox drops nothing.
     fn free(&self) -> Option<usize> {
-        self.kernel.lowest_free_buffer()
+        self.kernel.free_buffers().first().copied()
     }
 
-    /// Finds room, but no buffer.
+    /// Finds room, but too few buffers.
     fn is_short_at(&self, mode: u32) -> bool {
-        self.fits() && self.mailbox.mode == mode && !self.mailbox.is_full() && self.free().is_none()
+        self.fits() && self.mailbox.mode == mode && !self.mailbox.is_full() && !self.finds_buffers
     }
 
-    /// Finds room and a buffer.
+    /// Finds room and buffers.
     fn is_served_at(&self, mode: u32) -> bool {
-        self.fits() && self.mailbox.mode == mode && !self.mailbox.is_full() && self.free().is_some()
+        self.fits() && self.mailbox.mode == mode && !self.mailbox.is_full() && self.finds_buffers
     }
 
-    /// Drops a message of which this holds, by its buffer and its length.
+    /// Drops a message of which this holds, by its first buffer and its length.
     fn drops_one(&self, wanted: impl Fn(usize, usize) -> bool) -> bool {
-        self.drops() && self.mailbox.messages.front().is_some_and(|oldest| wanted(oldest.buffer, oldest.bytes.len()))
+        self.drops() && self.mailbox.messages.front().is_some_and(|oldest| wanted(oldest.first(), oldest.bytes.len()))
     }
 }
 
@@ -169,8 +183,6 @@ impl Receiving<'_> {
     }
 }
 
-/// A kind of call in words, and whether a call is of it. The words begin with the code that it is answered with, unless that is 0.
-type Kind<Test> = (&'static str, Test);
 type OfSettings = fn(&Setting) -> bool;
 type OfSends = fn(&Sending) -> bool;
 type OfReceives = fn(&Receiving) -> bool;
@@ -262,7 +274,8 @@ const SENDS: &[Kind<OfSends>] = &[
     ("a drop for a message of no bytes", |send| send.drops() && send.length == 0),
     ("a drop while 0 runs", |send| send.drops() && send.kernel.running == 0),
     ("a drop while a process runs", |send| send.drops() && send.kernel.running != 0),
-    ("6 at a full mailbox that drops", |send| !send.fits() && send.mailbox.is_full() && send.mailbox.mode == DROPS),
+    ("6 at a full mailbox that drops", |send| !send.fits() && send.mailbox.oldest_to_drop().is_some()),
+    ("12 at a full mailbox that drops", |send| send.keeps()),
     ("12 at an empty mailbox that drops", |send| send.is_short_at(DROPS) && !send.mailbox.is_busy()),
     ("12 at a mailbox with messages that drops", |send| send.is_short_at(DROPS) && !send.mailbox.messages.is_empty()),
     ("12 at a mailbox with waiters that drops", |send| send.is_short_at(DROPS) && !send.mailbox.waiters.is_empty()),
@@ -274,18 +287,11 @@ const SENDS: &[Kind<OfSends>] = &[
 const RECEIVES: &[Kind<OfReceives>] = &[
     ("received, a message that a drop spared", |receive| receive.takes() && receive.past.spared > 0),
     ("received, the last message that a drop spared", |receive| receive.takes() && receive.past.spared == 1),
+    ("received, the oldest message, which 12 left at a full mailbox that drops", |receive| receive.takes() && receive.past.kept),
     ("received from a full mailbox that drops", |receive| receive.takes() && receive.mailbox.is_full() && receive.mailbox.mode == DROPS),
     ("received from a mailbox with more than 8 messages", |receive| receive.takes() && receive.mailbox.messages.len() > 8),
     ("32 at a mailbox that drops", |receive| receive.may() && receive.mailbox.messages.is_empty() && receive.mailbox.mode == DROPS),
 ];
-
-fn words<Test>(kinds: &'static [Kind<Test>]) -> impl Iterator<Item = &'static str> {
-    kinds.iter().map(|(words, _)| *words)
-}
-
-fn those<Test>(kinds: &[Kind<Test>], are_met: impl Fn(&Test) -> bool) -> Vec<&'static str> {
-    kinds.iter().filter(|(_, test)| are_met(test)).map(|(words, _)| *words).collect()
-}
 
 /// All that a script can meet.
 pub fn in_scripts() -> impl Iterator<Item = &'static str> {
@@ -310,8 +316,8 @@ impl History {
                 let setting = self.setting(kernel, *number, (*capacity, *mode));
                 [those(SETTINGS, |test| test(&setting)), those(WIDE_SETTINGS, |test| test(&setting))].concat()
             }
-            Call::Send(number, bytes) => match kernel.mailboxes.get(*number as usize) {
-                Some(mailbox) => those(SENDS, |test| test(&Sending { kernel, mailbox, length: bytes.len() })),
+            Call::Send(number, bytes) => match Sending::new(kernel, *number, bytes.len()) {
+                Some(sending) => those(SENDS, |test| test(&sending)),
                 None => vec![],
             },
             Call::Receive(number) => match kernel.mailboxes.get(*number as usize) {
@@ -335,8 +341,14 @@ impl History {
                     past = Past { earlier: Some(size_of(mailbox)), ..Past::default() };
                 }
             }
-            Call::Send(_, bytes) if (Sending { kernel, mailbox, length: bytes.len() }).drops() => past.spared = mailbox.capacity,
-            Call::Receive(_) if (Receiving { kernel, past, mailbox }).takes() => past.spared = past.spared.saturating_sub(1),
+            Call::Send(_, bytes) => match Sending::new(kernel, *number, bytes.len()) {
+                Some(sending) if sending.drops() => past = Past { spared: mailbox.capacity, kept: false, ..past },
+                Some(sending) => past.kept |= sending.keeps(),
+                None => (),
+            },
+            Call::Receive(_) if (Receiving { kernel, past, mailbox }).takes() => {
+                past = Past { spared: past.spared.saturating_sub(1), kept: false, ..past };
+            }
             _ => (),
         }
         self.mailboxes[*number as usize] = past;
@@ -375,8 +387,9 @@ impl History {
 #[cfg(test)]
 mod tests {
     use super::*;
-    use crate::answer::{Answer, DONE};
+    use crate::answer::Answer;
     use crate::grammar::parse;
+    use crate::kinds::code_of;
     use crate::scripts::Script;
 
     /// A kernel with calls behind it.
@@ -440,7 +453,7 @@ mod tests {
         let dropped = ["a drop at 2", "a drop with only higher buffers free"];
         run.meets("send 3 aabb", &[&dropped[..], &["a drop for a longer message", "a drop while 0 runs"]].concat());
         run.meets("send 3 cc", &[&dropped[..], &["a drop while 0 runs"]].concat());
-        run.meets(&format!("send 3 {}", "5a".repeat(513)), &["6 at a full mailbox that drops"]);
+        run.meets(&format!("send 3 {}", "5a".repeat(4_097)), &["6 at a full mailbox that drops"]);
         // Buffer 1 is free, and the oldest of mailbox 3 lies in buffer 3.
         run.go_on("create 1, receive 4, release, send 3 cc");
         let lower = ["a drop at 2", "a drop with a lower buffer free"];
@@ -452,6 +465,24 @@ mod tests {
         run.meets("send 4 -", &["11 at 2", "11 with no buffer free"]);
         run.meets("send 8 -", &["12 at an empty mailbox that drops"]);
         run.meets("send 7 -", &["12 at a mailbox that refuses"]);
+    }
+
+    /// Mailbox 3 has a message in two buffers, and two are free.
+    #[test]
+    fn too_few_buffers() {
+        let page = |mailbox: u32, length: usize| format!("send {mailbox} {}", "5a".repeat(length));
+        let mut run = Run::after("create 1, mailbox 3 1 1");
+        [(3, 600), (0, 4_096), (0, 4_096), (0, 4_096), (0, 2_048)].into_iter().for_each(|(mailbox, length)| run.go_on(&page(mailbox, length)));
+        run.meets(&page(4, 1_025), &["12 at a mailbox that refuses"]);
+        run.meets(&page(3, 2_049), &["12 at a full mailbox that drops"]);
+        let dropped = ["a drop at 1", "a drop with only higher buffers free", "a drop for a longer message", "a drop while a process runs"];
+        run.meets(&page(3, 2_048), &dropped);
+        let full = "received from a full mailbox that drops";
+        run.meets("receive 3", &[full]);
+        run.go_on(&page(3, 2_049));
+        run.meets("receive 3", &["received, the oldest message, which 12 left at a full mailbox that drops", full]);
+        run.go_on(&page(3, 2_048));
+        run.meets("receive 3", &["received, a message that a drop spared", "received, the last message that a drop spared", full]);
     }
 
     #[test]
@@ -488,8 +519,7 @@ mod tests {
                     let kinds = run.history.kinds(&run.kernel, call);
                     let code = run.make(call).code;
                     for kind in &kinds {
-                        let expected = kind.split(' ').next().and_then(|word| word.parse().ok()).unwrap_or(DONE);
-                        assert_eq!(code, expected, "seed {seed}, {call:?}: {kind}");
+                        assert_eq!(code, code_of(kind), "seed {seed}, {call:?}: {kind}");
                     }
                     assert!(!kinds.is_empty() || !matches!(call, Call::Mailbox(..)) && code != 11, "seed {seed}, {call:?}");
                     if let (Call::Send(number, _), true) = (call, kinds.iter().any(|kind| kind.starts_with("a drop"))) {

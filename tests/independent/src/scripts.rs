@@ -3,15 +3,18 @@
 //! Calls drawn blindly rarely fill a mailbox or gather waiters. So the kernel runs alongside, and each line is drawn
 //! from wishes that look at its state, such as "receive where there is a message". The seed chooses the style: its
 //! phases, each a list of wishes with weights, take turns. It also chooses how the script begins, where a slice is named, and
-//! in some a number is born so often that its names return, or mailboxes of many sizes are filled and emptied.
+//! in some a number is born so often that its names return, mailboxes of many sizes are filled and emptied, or pages fill the
+//! store.
 
 use crate::call::Call;
 use crate::desk::Desk;
 use crate::grammar::{line_of, parse, LINE_BYTES};
 use crate::junk::{giant_line, junk_line, junk_question, near_slice};
 use crate::kernel::*;
+use crate::lengths::{message, message_of, short_message, MOST_BUFFERS};
 use crate::mailboxes::History;
 use crate::names::Born;
+use crate::openings::{births, fillings, pages};
 use crate::random::Random;
 use crate::sizes::{capacity, mode};
 use std::io::{self, Write};
@@ -26,8 +29,10 @@ enum Wish {
     StopReady,
     StopWaiter,
     StopHolder,
+    StopWithPage,
     StopAnyName,
     End,
+    EndWithPage,
     Yield,
     ClassAny,
     ClassBelow,
@@ -39,6 +44,10 @@ enum Wish {
     SendToFullest,
     SendToDropping,
     SendToWaiter,
+    SendPage,
+    SendInLastBuffers,
+    SendOneTooMany,
+    SendPageToDropping,
     ReceiveAny,
     ReceiveFilled,
     ReceiveEmpty,
@@ -47,6 +56,7 @@ enum Wish {
     ReadAny,
     ReadNear,
     ReadZero,
+    ReadWhole,
     Release,
     SignalAny,
     SignalWaited,
@@ -79,7 +89,7 @@ const STYLES: [Style; 8] = [
         phases: &[&[
             (10, Create), (3, StopLive), (3, StopAnyName), (2, End), (5, Yield), (5, ClassAny), (15, Tick), (12, SendAny), (6, ReceiveAny),
             (8, ReceiveFilled), (5, ReadAny), (5, ReadNear), (6, Release), (6, SignalAny), (5, SignalWaited), (5, WaitAny),
-            (3, WaitCounted), (4, SetAny), (2, SendToDropping), (2, ReceiveSpared), (2, OutOfRange),
+            (3, WaitCounted), (4, SetAny), (2, SendToDropping), (2, ReceiveSpared), (1, SendPage), (1, StopWithPage), (2, OutOfRange),
         ]],
     },
     Style {
@@ -99,7 +109,7 @@ const STYLES: [Style; 8] = [
         phases: &[
             &[
                 (20, SendWithRoom), (12, SendToFullest), (5, SendToFull), (5, SendToDropping), (3, SendAny), (3, SetIdle), (2, SetAny),
-                (3, Create), (4, Tick), (1, Yield), (1, OutOfRange),
+                (3, Create), (4, Tick), (1, Yield), (1, SendOneTooMany), (1, SendPageToDropping), (1, OutOfRange),
             ],
             &[
                 (15, ReceiveFilled), (10, SendWithRoom), (8, SendToFullest), (3, SendToFull), (6, SendToDropping), (3, SetIdle), (2, SetAny),
@@ -108,7 +118,7 @@ const STYLES: [Style; 8] = [
             ],
             &[
                 (12, ReceiveFilled), (6, ReceiveSpared), (18, Release), (4, ReadAny), (4, Yield), (2, StopHolder), (2, Create), (3, SendAny),
-                (3, SendToDropping), (3, SetBack), (3, SetAny), (1, End), (2, ReceiveEmpty),
+                (3, SendToDropping), (3, SetBack), (3, SetAny), (1, End), (2, ReceiveEmpty), (2, StopWithPage), (1, SendPageToDropping),
             ],
         ],
     },
@@ -122,7 +132,7 @@ const STYLES: [Style; 8] = [
             ],
             &[
                 (12, SendToWaiter), (12, SignalWaited), (4, Tick), (3, Release), (3, ReadNear), (2, Yield), (2, Create), (3, SendToFullest),
-                (3, SendToDropping),
+                (3, SendToDropping), (1, SendPage), (1, EndWithPage),
             ],
             &[
                 (10, StopWaiter), (2, StopAnyName), (8, SendToWaiter), (8, SignalWaited), (6, ReceiveWaited), (6, WaitWaited), (6, Create),
@@ -163,6 +173,11 @@ const STYLES: [Style; 8] = [
                 (5, ReceiveSpared), (1, OutOfRange),
             ],
             &[
+                (4, SendPage), (2, SendInLastBuffers), (3, SendOneTooMany), (8, SendPageToDropping), (5, SendToFullest), (5, SetIdle),
+                (12, ReceiveFilled), (4, ReceiveSpared), (4, ReadWhole), (3, ReadNear), (1, ReadAny), (8, Release), (3, Create), (2, Yield),
+                (2, WaitZero), (2, SignalWaited), (2, StopWithPage), (1, EndWithPage), (1, ReceiveEmpty), (1, Tick),
+            ],
+            &[
                 (6, ReceiveWaited), (8, SendToWaiter), (12, ReadNear), (4, ReadZero), (3, ReadAny), (6, Release), (5, Create), (2, Yield),
                 (2, WaitZero), (2, SignalWaited), (1, StopHolder),
             ],
@@ -184,14 +199,10 @@ const FLOODED: u64 = 8;
 const WITH_GIANT: u64 = 3;
 /// One in so many scripts of the preemption style begins with a number whose names return, on top of its lines.
 const REBORN: u64 = 2;
-/// It is born so often, and of these the last ones are looked at closely.
-const REBIRTHS: u32 = BIRTHS + 2;
-const LAST_REBIRTHS: u32 = 4;
-
 /// One in so many scripts of the mail style begins with mailboxes that are filled and emptied, on top of its lines.
 const FILLED: u64 = 2;
-/// So many messages more than a mailbox holds are sent to it then.
-const TOO_MANY: u32 = 3;
+/// One in so many scripts of the reads style begins with pages, on top of its lines.
+const PAGED: u64 = 2;
 
 /// How many ways to begin there are. The seed chooses one: among 16 seeds in a row, from a multiple of 8 on, each comes
 /// once, and a style meets all of them in 16 turns.
@@ -230,7 +241,7 @@ fn style_and_turn(seed: u64) -> (&'static Style, u64) {
 
 /// The beginning of a seed's script, and two processes that take turns until one has used up the slice that holds then:
 /// drawn lines do that rarely, or never where it is long. Nothing of that where no line stands at the beginning.
-/// Then, in some, the births of a number or full mailboxes.
+/// Then, in some, the births of a number, full mailboxes or pages.
 fn opening(seed: u64) -> Vec<Vec<u8>> {
     let mut lines = beginning(seed);
     let mut desk = Desk::fresh();
@@ -243,55 +254,15 @@ fn opening(seed: u64) -> Vec<Vec<u8>> {
         lines.extend(calls.map(|call| line_of(&call).into_bytes()));
     }
     let (style, turn) = style_and_turn(seed);
-    if style.name == "preemption" && turn % REBORN == 0 {
-        let in_use = if lines.is_empty() { 0 } else { 2 };
-        lines.extend(births(in_use + 1).iter().map(|call| line_of(call).into_bytes()));
-    }
-    if style.name == "mail" && turn % FILLED == 0 {
-        lines.extend(fillings(turn / FILLED).iter().map(|call| line_of(call).into_bytes()));
-    }
+    let lowest_unused = if lines.is_empty() { 1 } else { 3 };
+    let calls = match style.name {
+        "preemption" if turn % REBORN == 0 => births(lowest_unused),
+        "mail" if turn % FILLED == 0 => fillings(turn / FILLED),
+        "reads" if turn % PAGED == 0 => pages(lowest_unused, turn / PAGED),
+        _ => vec![],
+    };
+    lines.extend(calls.iter().map(|call| line_of(call).into_bytes()));
     lines
-}
-
-/// The lowest unused number is born and stopped until its names return. The last times it is asked about, and stopped, by
-/// the names of the two births before, of the next one, and by its own last; so it is again when it is unused. In the end it
-/// is a process.
-fn births(number: u32) -> Vec<Call> {
-    let mut calls = vec![];
-    for birth in 1..=REBIRTHS {
-        let name = |birth: u32| number + BIRTHS * (birth % BIRTHS);
-        let names = [birth + BIRTHS - 2, birth - 1, birth + 1, birth].map(name);
-        calls.push(Call::Create(0));
-        if birth + LAST_REBIRTHS > REBIRTHS {
-            calls.extend(names.map(Call::Why));
-            calls.extend(names[..3].iter().copied().map(Call::Stop));
-        }
-        if birth < REBIRTHS {
-            calls.push(Call::Stop(name(birth)));
-        }
-        if birth + LAST_REBIRTHS > REBIRTHS && birth < REBIRTHS {
-            calls.extend(names.map(Call::Why));
-            calls.extend(names.map(Call::Stop));
-        }
-    }
-    calls
-}
-
-/// A process fills a mailbox of 32, one of 8, and one of 9 to 31, each first refusing and then dropping, sends more, reads all
-/// that is there and sets it back to 8, refusing. In between it tries to set it while there are messages.
-fn fillings(round: u64) -> Vec<Call> {
-    let mut calls = vec![Call::Create(4)];
-    for (mailbox, capacity) in [(15, 32), (7, 8), (0, 9 + (round % 23) as u32)] {
-        for mode in [REFUSES, DROPS] {
-            calls.push(Call::Mailbox(mailbox, capacity, mode));
-            calls.extend((0..capacity + TOO_MANY).map(|number| Call::Send(mailbox, vec![number as u8; 1 + number as usize % 3])));
-            calls.push(Call::Mailbox(mailbox, capacity, mode));
-            calls.extend((0..capacity).flat_map(|_| [Call::Receive(mailbox), Call::Read(512), Call::Release]));
-            calls.push(Call::Mailbox(mailbox, USUAL_CAPACITY as u32, REFUSES));
-        }
-    }
-    calls.push(Call::End);
-    calls
 }
 
 fn other_first_line(number: u64) -> Vec<u8> {
@@ -419,8 +390,10 @@ impl Script {
             StopReady => Call::Stop(random.pick(&processes(kernel, |number| kernel.ready.iter().any(|queue| queue.contains(&number))))?),
             StopWaiter => Call::Stop(random.pick(&processes(kernel, |number| waits(kernel, number)))?),
             StopHolder => Call::Stop(random.pick(&processes(kernel, |number| kernel.hand_of(number).is_some()))?),
+            StopWithPage => Call::Stop(random.pick(&processes(kernel, |number| has_page(kernel, number)))?),
             StopAnyName => Call::Stop(self.born.draw(kernel, random)),
             End => Call::End,
+            EndWithPage => has_page(kernel, kernel.running).then_some(Call::End)?,
             Yield => Call::Yield,
             ClassAny => Call::Class(random.below(CLASSES) as u32),
             ClassBelow => Call::Class(random.between(0, running_class) as u32),
@@ -445,8 +418,15 @@ impl Script {
                 let room = |number: &u32| kernel.mailboxes[*number as usize].capacity - kernel.mailboxes[*number as usize].messages.len();
                 Call::Send(open.into_iter().min_by_key(room)?, short_message(random))
             }
-            SendToDropping => Call::Send(random.pick(&mailboxes(kernel, |mailbox| mailbox.is_full() && mailbox.mode == DROPS))?, message(random)),
+            SendToDropping => Call::Send(random.pick(&mailboxes(kernel, |mailbox| mailbox.oldest_to_drop().is_some()))?, message(random)),
             SendToWaiter => Call::Send(random.pick(&mailboxes(kernel, |mailbox| !mailbox.waiters.is_empty()))?, message(random)),
+            SendPage => {
+                let buffers = random.between(2, MOST_BUFFERS);
+                Call::Send(random.pick(&mailboxes(kernel, |mailbox| !mailbox.is_full()))?, message_of(random, buffers))
+            }
+            SendInLastBuffers => self.send_to_open(kernel.free_buffers().len())?,
+            SendOneTooMany => self.send_to_open(kernel.free_buffers().len() + 1)?,
+            SendPageToDropping => self.send_to_dropping()?,
             ReceiveAny => Call::Receive(random.below(MAILBOXES) as u32),
             ReceiveFilled => Call::Receive(random.pick(&mailboxes(kernel, |mailbox| !mailbox.messages.is_empty()))?),
             ReceiveEmpty => Call::Receive(random.pick(&mailboxes(kernel, |mailbox| mailbox.messages.is_empty()))?),
@@ -455,9 +435,10 @@ impl Script {
                 Call::Receive(random.pick(&mailboxes(kernel, |mailbox| mailbox.waiters.len() >= least))?)
             }
             ReceiveSpared => Call::Receive(random.pick(&self.history.that_dropped())?),
-            ReadAny => Call::Read(random.between(0, 512) as u32),
-            ReadNear => Call::Read((hand_length? + random.below(3)).saturating_sub(1).min(512) as u32),
+            ReadAny => Call::Read(any_room(random)),
+            ReadNear => Call::Read((hand_length? + random.below(3)).saturating_sub(1).min(LONGEST_MESSAGE) as u32),
             ReadZero => Call::Read(0),
+            ReadWhole => Call::Read(hand_length.map(|_| LONGEST_MESSAGE)? as u32),
             Release => Call::Release,
             SignalAny => Call::Signal(random.below(SEMAPHORES) as u32),
             SignalWaited => Call::Signal(random.pick(&semaphores(kernel, |semaphore| !semaphore.waiters.is_empty()))?),
@@ -477,6 +458,23 @@ impl Script {
         })
     }
 
+    /// A message that needs so many buffers, to a mailbox with room, if there are such.
+    fn send_to_open(&mut self, buffers: usize) -> Option<Call> {
+        let open = mailboxes(self.kernel(), |mailbox| !mailbox.is_full());
+        let bytes = (1..=MOST_BUFFERS).contains(&buffers).then(|| message_of(&mut self.random, buffers))?;
+        Some(Call::Send(self.random.pick(&open)?, bytes))
+    }
+
+    /// A message to a full mailbox that drops: all buffers that are free then, one too many, or any number.
+    fn send_to_dropping(&mut self) -> Option<Call> {
+        let number = self.random.pick(&mailboxes(self.kernel(), |mailbox| mailbox.oldest_to_drop().is_some()))?;
+        let dropped = self.kernel().mailboxes[number as usize].oldest_to_drop()?.buffers.len();
+        let found = self.kernel().free_buffers().len() + dropped;
+        let wanted = [found, found + 1, self.random.between(1, MOST_BUFFERS), MOST_BUFFERS];
+        let buffers = self.random.pick(&wanted)?.min(MOST_BUFFERS);
+        Some(Call::Send(number, message_of(&mut self.random, buffers)))
+    }
+
     /// Any call, as far as its arguments are in range.
     fn any_call(&mut self) -> Call {
         let random = &mut self.random;
@@ -488,7 +486,7 @@ impl Script {
             5 => Call::Tick,
             6 => Call::Send(random.below(MAILBOXES) as u32, message(random)),
             7 => Call::Receive(random.below(MAILBOXES) as u32),
-            8 => Call::Read(random.between(0, 512) as u32),
+            8 => Call::Read(any_room(random)),
             9 => Call::Release,
             10 => Call::Signal(random.below(SEMAPHORES) as u32),
             11 => Call::Mailbox(random.below(MAILBOXES) as u32, capacity(random), mode(random)),
@@ -574,6 +572,10 @@ fn waits(kernel: &Kernel, process: usize) -> bool {
     process != kernel.running && !kernel.ready.iter().any(|queue| queue.contains(&process))
 }
 
+fn has_page(kernel: &Kernel, process: usize) -> bool {
+    kernel.hand_of(process).is_some_and(|message| message.buffers.len() > 1)
+}
+
 fn mailboxes(kernel: &Kernel, wanted: impl Fn(&Mailbox) -> bool) -> Vec<u32> {
     (0..MAILBOXES as u32).filter(|&number| wanted(&kernel.mailboxes[number as usize])).collect()
 }
@@ -592,22 +594,10 @@ fn waiters_wanted(random: &mut Random, lengths: impl Iterator<Item = usize>) -> 
     }
 }
 
-/// Mostly short; now and then about as long as a buffer, or as a line may carry.
-fn message(random: &mut Random) -> Vec<u8> {
-    let length = match random.below(20) {
-        0 => random.between(0, 600),
-        1 => random.between(510, 514),
-        2 => random.between(598, 600),
-        3 => 0,
-        4..=7 => random.between(1, 40),
-        _ => return short_message(random),
-    };
-    random.bytes(length)
-}
-
-fn short_message(random: &mut Random) -> Vec<u8> {
-    let length = random.below(6);
-    random.bytes(length)
+/// Half of them no longer than a buffer.
+fn any_room(random: &mut Random) -> u32 {
+    let longest = random.pick(&[BUFFER_BYTES, LONGEST_MESSAGE]).unwrap_or(BUFFER_BYTES);
+    random.between(0, longest) as u32
 }
 
 fn out_of_range(random: &mut Random, kernel: &Kernel) -> Call {

@@ -1,5 +1,5 @@
-//! Which states are sound: "Where everything stands" of document 01, sentence by sentence, with the slice, the birth counts
-//! and the sizes of mailboxes of document 02.
+//! Which states are sound: "Where everything stands" of document 01, sentence by sentence, with the slice, the birth counts,
+//! the sizes of mailboxes and the messages over several buffers of document 02.
 
 use crate::kernel::*;
 
@@ -54,11 +54,15 @@ fn numbers_are_right(kernel: &Kernel) -> bool {
         && kernel.semaphores.iter().all(|semaphore| semaphore.count <= COUNT_LIMIT)
 }
 
-/// Each buffer is free, queued in one mailbox, or in the hand of one process, none twice. Mailbox waiters have empty
-/// hands. A message has 0 to 512 bytes.
+/// Each buffer is free or belongs to one message, which is queued in one mailbox or in the hand of one process; none twice.
+/// Mailbox waiters have empty hands. A message has 0 to 4,096 bytes, and as many buffers as it needs.
 fn buffers_are_right(kernel: &Kernel) -> bool {
-    let times_held = |buffer: usize| kernel.held().filter(|message| message.buffer == buffer).count();
-    kernel.held().all(|message| message.buffer < BUFFERS && message.bytes.len() <= BUFFER_BYTES)
+    let times_held = |buffer: usize| kernel.held().flat_map(|message| &message.buffers).filter(|&&held| held == buffer).count();
+    let message_is_right = |message: &Message| {
+        let length = message.bytes.len();
+        length <= LONGEST_MESSAGE && message.buffers.len() == buffers_needed(length) && message.buffers.iter().all(|&buffer| buffer < BUFFERS)
+    };
+    kernel.held().all(message_is_right)
         && (0..BUFFERS).all(|buffer| times_held(buffer) <= 1)
         && waiters_at_mailboxes(kernel).flatten().all(|&waiter| kernel.hand_of(waiter).is_none())
 }

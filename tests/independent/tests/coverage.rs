@@ -1,5 +1,5 @@
 //! The random scripts name a slice in every way, and reach every code, every kind of reason, every kind of name, all that can be
-//! met at mailboxes and every deep state, with fixed seeds; and each seed gives one script.
+//! met at mailboxes and done with buffers, and every deep state, with fixed seeds; and each seed gives one script.
 
 use independent::coverage::Coverage;
 use independent::scripts::{script, Questioned, Script};
@@ -173,11 +173,13 @@ fn every_kind_at_mailboxes_is_wanted() {
         "at a mailbox: a drop with only higher buffers free",
         "at a mailbox: a drop while 0 runs",
         "at a mailbox: 6 at a full mailbox that drops",
+        "at a mailbox: 12 at a full mailbox that drops",
         "at a mailbox: 12 at an empty mailbox that drops",
         "at a mailbox: 12 at a mailbox with messages that drops",
         "at a mailbox: 12 at a mailbox with waiters that drops",
         "at a mailbox: to a waiter, at a mailbox that drops",
         "at a mailbox: received, a message that a drop spared",
+        "at a mailbox: received, the oldest message, which 12 left at a full mailbox that drops",
         "the bad line: mailbox",
         "the bad line: mailbox 5 3",
         "the bad line: mailbox 5 3 1 0",
@@ -193,7 +195,7 @@ fn every_kind_at_mailboxes_is_wanted() {
 #[test]
 fn a_missing_kind_at_mailboxes_is_found() {
     let all = reached();
-    assert_eq!((all.mailboxes.len(), all.near_mailboxes.len()), (81, 32));
+    assert_eq!((all.mailboxes.len(), all.near_mailboxes.len()), (83, 32));
     for kind in all.mailboxes.keys() {
         let mut without = all.clone();
         without.mailboxes.remove(kind);
@@ -214,6 +216,77 @@ fn mailboxes_are_filled_in_few_scripts() {
     assert_eq!(filled, [2, 18, 34, 50]);
     let mut opening = Script::new(2, 0);
     assert!(std::iter::from_fn(|| opening.next_line()).count() < 600);
+}
+
+#[test]
+fn every_kind_with_buffers_is_wanted() {
+    let nothing = Coverage::default().missing();
+    assert!(nothing.contains(&"32 buffers held by pages".to_string()), "{nothing:?}");
+    for length in [0, 1, 511, 512, 513, 1_023, 1_024, 1_025, 1_535, 1_536, 1_537, 2_048, 2_049, 2_560, 2_561, 3_072, 3_073, 3_584, 3_585, 4_095, 4_096] {
+        for what in ["sent", "read"] {
+            assert!(nothing.contains(&format!("with buffers: {what}, {length} bytes")), "{what}, {length}: {nothing:?}");
+        }
+    }
+    for what in [
+        "6 for 4097 bytes",
+        "6 for 4200 bytes",
+        "a page while 0 runs",
+        "a page that is queued",
+        "a page to a waiter",
+        "a page in buffers side by side",
+        "a page in buffers that are not side by side",
+        "a page of 8 buffers in three stretches or more",
+        "a page in all buffers that were free",
+        "a drop of a page",
+        "a drop of a page of 8 buffers",
+        "a drop that gives back three or more, of which the message takes some, and others",
+        "a drop that gives back more than are taken",
+        "a drop that gives back fewer than are taken",
+        "a drop without which there would be too few",
+        "a drop of which nothing is taken, for a page",
+        "12 by one buffer, with others free",
+        "12 by more than one buffer, with others free",
+        "12 for a page, with no buffer free",
+        "12 for a page to a waiter",
+        "12 by one buffer, with a drop",
+        "12 by more than one buffer, with a drop",
+        "12 with a drop that would give back three or more",
+        "7 with a page in hand",
+        "9 for a page, by one byte",
+        "9 for a page, in a room of a buffer",
+        "9 for a page, in no room",
+        "released, a page",
+        "released, a page in buffers that are not side by side",
+        "stopped with a page in hand, running",
+        "stopped with a page in hand, ready",
+        "stopped with a page in hand, at a semaphore",
+        "ended with a page in hand",
+    ] {
+        assert!(nothing.contains(&format!("with buffers: {what}")), "{what}: {nothing:?}");
+    }
+}
+
+/// Where one kind did not come, that is missing and nothing else.
+#[test]
+fn a_missing_kind_with_buffers_is_found() {
+    let all = reached();
+    assert_eq!(all.buffers.len(), 89);
+    for kind in all.buffers.keys() {
+        let mut without = all.clone();
+        without.buffers.remove(kind);
+        assert_eq!(without.missing(), [format!("with buffers: {kind}")]);
+    }
+}
+
+/// Of 16 seeds one begins with pages: each edge of lengths is sent and read, and pages fill the store, are given back and dropped.
+#[test]
+fn pages_come_first_in_few_scripts() {
+    let is_long = |line: &&[u8]| line.len() > 8_192;
+    let paged = |seed: u64| script(seed, 0).split(|&byte| byte == b'\n').filter(is_long).count() > 10;
+    assert_eq!((0..64).filter(|&seed| paged(seed)).collect::<Vec<u64>>(), [6, 22, 38, 54]);
+    let mut opening = Script::new(6, 0);
+    assert!(std::iter::from_fn(|| opening.next_line()).count() < 600);
+    assert!(script(6, 0).len() < 400_000);
 }
 
 #[test]

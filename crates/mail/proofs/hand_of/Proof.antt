@@ -6,7 +6,7 @@ use lib.ListN.{length}
 use Rattle.rings.proofs.Units.{entry}
 use Rattle.boxes.specs.Box.{num}
 use Rattle.plain.specs.Sizes.{processes}
-use Rattle.mail.proofs.Arrays.{read-past}
+use Rattle.chains.proofs.Arrays.{read-past}
 use Rattle.mail.proofs.hand_of.Statement.{statement}
 use Rattle.mail.proofs.hand_of.Tie as tie
 

@@ -4,7 +4,7 @@ use native.Mathlib.Omega.{arith}
 use mathlib.Core.Path.{_≡_, sym}
 use lib.ListN.{length}
 use Rattle.plain.specs.Sizes.{processes}
-use Rattle.mail.proofs.Arrays.{stored, stored-past}
+use Rattle.chains.proofs.Arrays.{stored, stored-past}
 use Rattle.mail.proofs.with_hand.Statement.{statement}
 use Rattle.mail.proofs.with_hand.Tie as tie
 

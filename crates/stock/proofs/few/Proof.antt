@@ -4,7 +4,7 @@ use borrow.Author.Count.{below-more}
 use Prim.Native.Nat.{ℕ, _+_, _≤_, _<_, _-_}
 use mathlib.Core.Path.{_≡_, sym, ap, _∙_}
 use mathlib.Core.Bool.{false, true≢false}
-use mathlib.Core.List.{List, map}
+use mathlib.Core.List.{List}
 use mathlib.Core.Logic.{⊎-elim}
 use native.Mathlib.Omega.{arith}
 use lib.ListN.{length, getD, List·getD-eq-default}
@@ -13,7 +13,6 @@ use mir.Val.{Fits}
 use Rattle.lists.proofs.Laws.{le?}
 use Rattle.rings.specs.Walk.{tables}
 use Rattle.rings.specs.Moves.{holdsAtLeast}
-use Rattle.boxes.specs.Box.{num, tablesOf}
 use Rattle.habits.proofs.Laws.{inside}
 use Rattle.habits.specs.Tables.{capacityIn}
 use Rattle.plain.specs.Sizes.{buffers, mailboxes}
@@ -22,11 +21,11 @@ use Rattle.stock.proofs.few.Statement.{statement}
 use Rattle.stock.proofs.few.Tie as tie
 
 abbrev Inv-loop : tie.InvT-loop
-Inv-loop capacity next m₀ m =
+Inv-loop next capacity m₀ m =
     (m ≤ mailboxes) × ((i : ℕ) → i < m → (prev : List ℕ) → holdsAtLeast buffers mailboxes (tables next prev) i (capacityIn capacity i + 1) ≡ false)
 
 abbrev μ-loop : tie.MeasureT-loop
-μ-loop capacity next m₀ m = mailboxes - m
+μ-loop next capacity m₀ m = mailboxes - m
 
 loop-holds : tie.Need-loop-holds Inv-loop μ-loop
 loop-holds c = (omega arith, λ i h. absurd (omega arith))
@@ -41,36 +40,26 @@ small s m =
 
 add-at-least : tie.Need-add-at-least Inv-loop μ-loop
 add-at-least c =
-    let low : c .capacity-of .result < 256 = rw (c .capacity-of .ensures) (small (c .before .before .before .before .before .before) _) in
+    let low : c .capacity-of .result < 256 = rw (c .capacity-of .ensures) (small (c .before .before .before) _) in
     omega arith
 
 -- what is asked of mailbox m, whatever the links back are
 asked : (d : tie.After-at-least Inv-loop μ-loop) (prev : List ℕ) →
-    let l = d .before .before .before .before in
-    d .at-least .result
-    ≡ holdsAtLeast buffers mailboxes (tables (l .before .bytes-of .result) prev) (l .loop .m) (capacityIn (l .before .before .before .args .capacity) (l .loop .m) + 1)
+    let l = d .before .before .before in
+    d .at-least .result ≡ holdsAtLeast buffers mailboxes (tables (l .before .args .next .now) prev) (l .loop .m) (capacityIn (l .before .args .capacity) (l .loop .m) + 1)
 asked d prev =
-    let l = d .before .before .before .before in
+    let l = d .before .before .before in
     d .at-least .ensures prev .whole
-    ∙ ap (λ (n : ℕ). holdsAtLeast buffers mailboxes (tables (l .before .bytes-of .result) prev) (l .loop .m) (n + 1)) (d .before .capacity-of .ensures)
+    ∙ ap (λ (n : ℕ). holdsAtLeast buffers mailboxes (tables (l .before .args .next .now) prev) (l .loop .m) (n + 1)) (d .before .capacity-of .ensures)
 
 returns : tie.Need-returns Inv-loop μ-loop
-unfolding tablesOf
-returns c =
-    let l = c .before .before .before .before .before in
-    let a = l .before .before .before .args in
-    let e : c .before .at-least .result ≡ holdsAtLeast buffers mailboxes (tablesOf (a .boxes)) (l .loop .m) (capacityIn (a .capacity) (l .loop .m) + 1) =
-    rw (l .before .bytes-of .ensures) at (asked (c .before) (map num (a .boxes .prev))) in
-    λ w. true≢false (sym (c .if1 .taken) ∙ e ∙ w (l .loop .m) (omega arith))
+returns c = λ prev w. true≢false (sym (c .if1 .taken) ∙ asked (c .before) prev ∙ w (c .before .before .before .before .loop .m) (omega arith))
 
 loop-again : tie.Need-loop-again Inv-loop μ-loop
-loop-again c = (omega arith, below-more _ _ (c .before .before .before .before .before .loop .inv .1) (λ prev. sym (asked (c .before) prev) ∙ c .if1 .left))
+loop-again c = (omega arith, below-more _ _ (c .before .before .before .before .loop .inv .1) (λ prev. sym (asked (c .before) prev) ∙ c .if1 .left))
 
 returns-2 : tie.Need-returns-2 Inv-loop μ-loop
-unfolding tablesOf
-returns-2 c =
-    let b = c .before .before in
-    λ m h. rw (b .bytes-of .ensures) at (c .before .loop .inv .1 m (omega arith) (map num (b .before .before .args .boxes .prev)))
+returns-2 c = λ prev m h. c .before .loop .inv .1 m (omega arith) prev
 
 pub few-spec : {M : Type 1} → statement M
 few-spec =
@@ -78,7 +67,6 @@ few-spec =
     (tie.spec
     Inv-loop
     μ-loop
-    (λ c κs. search needs)
     loop-holds
     (λ c κs. search needs)
     add-at-least

@@ -14,7 +14,7 @@ const USAGE: &str = "usage: compare --replay PROGRAM [ARGS...] --scripts N --lin
   PROGRAM reads a script on standard input and writes the answers to standard output
   --scripts N      so many scripts, of the seeds S, S + 1, ...
   --lines L        so many lines each, after those that name a slice, and questions between them; a few scripts have more, to
-                   drive a count to its limit, to have names return, or to fill mailboxes
+                   drive a count to its limit, to have names return, to fill mailboxes, or to fill the store with pages
   --save DIR       saves the script of a failure there, up to the line that differs
   --pieces         hands some scripts over byte by byte, and some in pieces of odd sizes
   --seconds LIMIT  stops a program that takes longer for one script; 600 if not given";

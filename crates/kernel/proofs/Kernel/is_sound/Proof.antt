@@ -18,9 +18,11 @@ long s = search needs
 wide : (s : tie.Start) → length (s .args .self .births) ≡ processes
 wide s = search needs
 
--- the tables of settings have an entry for each mailbox
+-- the tables of settings have an entry for each mailbox; of a state as large as this, `search` does not look at the last field by itself
 settled : (s : tie.Start) → (length (s .args .self .settings .capacity) ≡ mailboxes) × (length (s .args .self .settings .mode) ≡ mailboxes)
-settled s = (search needs, search needs)
+settled s =
+    let settings = s .good .0 .1 .1 .1 .1 .1 .1 .0 in
+    (search (settings, needs), search (settings, needs))
 
 low : (s : tie.Start) (i : ℕ) → Fits w16 (getD (s .args .self .count) i 0)
 low s i = search needs

@@ -4,12 +4,13 @@ use Rattle.kernel.proofs.Changes.{moved-holds, mailed-holds, gone-kept,
 use Rattle.kernel.proofs.Judging.{refused-plainly, accepted-plainly, gives, runner-is}
 use Rattle.kernel.proofs.Kernel.receive.Statement.{statement}
 use Rattle.kernel.proofs.Kernel.receive.Tie as tie
-use Rattle.kernel.proofs.Reading.{nobody-there, first-there, empty-hand-is}
+use Rattle.kernel.proofs.Reading.{first-there, empty-hand-is}
 use Rattle.kernel.proofs.Verdicts.{judged-receive}
 use Rattle.kernel.specs.Judged.{answered}
 use Rattle.mail.proofs.Looks.{empty-box, first-length}
 use Rattle.mail.specs.Moves.{hasMessage}
 use Rattle.plain.specs.Calls as Plain
+use Rattle.plain_laws.proofs.Relief.{nobody}
 use Rattle.plain.specs.Sizes.{mailboxes, atMailbox}
 use borrow.Author.Needs.{needs}
 use borrow.Author.Tests.{leb-false, eqb-false, not-true, not-false}
@@ -27,7 +28,7 @@ returns-2 c = accepted-plainly (Plain.receive _) (c .before .before .before .bef
     let a = c .before .before .before .before .before .before .before .before .before .before .before .before .before .args in
     let low : a .m < mailboxes = leb-false _ _ (x .1 .0) in
     let e : a .m % 16 ≡ a .m = omega (arith, low) in
-    let none : s .box (a .m) ≡ [] = nobody-there _ (not-true _ (sym (empty-box (H .mail) (a .m)) ∙ (sym (c .before .before .before .before .before .is-empty-box .ensures) ∙ c .before .before .before .before .if2 .taken))) in
+    let none : s .box (a .m) ≡ [] = nobody _ (not-true _ (sym (empty-box (H .mail) (a .m)) ∙ (sym (c .before .before .before .before .before .is-empty-box .ensures) ∙ c .before .before .before .before .if2 .taken))) in
     rw none (gives 32 0 [] _ (c .answer .ensures) (rw (c .before .with-procs .ensures)
     (moved-holds H (rw (c .before .before .go-to .ensures, e, c .before .before .before .before .before .before .before .before .before .before .before .before .facts .ensures .slice) (gone-kept H S (atMailbox (a .m)) (eqb-false _ _ (x .0)) (omega arith) (omega (arith, low))))))))
 

@@ -1,11 +1,11 @@
 -- `mail::Mail::deliver` meets its contract. Assumes nothing.
-use native.Mathlib.Omega.{arith}
-use borrow.Author.Needs.{needs}
-use borrow.Author.Tests.{lt-ltb, le-ltb}
-use Rattle.plain.specs.Sizes.{processes}
-use Rattle.mail.specs.Moves.{delivered}
 use Rattle.mail.proofs.Mail.deliver.Statement.{statement}
 use Rattle.mail.proofs.Mail.deliver.Tie as tie
+use Rattle.mail.specs.Moves.{delivered}
+use Rattle.plain.specs.Sizes.{processes}
+use borrow.Author.Needs.{needs}
+use borrow.Author.Tests.{lt-ltb, le-ltb}
+use native.Mathlib.Omega.{arith}
 
 returns : tie.Need-returns
 unfolding delivered

@@ -9,7 +9,7 @@ use Rattle.script.proofs.calls.sentence.Statement.{statement}
 use Rattle.script.proofs.calls.sentence.Tie as tie
 
 returns : tie.Need-returns
-returns c = rw (words-one (c .before .before .before .before .before .args .line .now) (sym (c .before .before .before .first-space .ensures .0) ∙ c .before .before .if1 .taken)) (c .asking .ensures ∙ c .before .alone .ensures)
+returns c = rw (words-one (c .before .before .before .before .args .line .now) (sym (c .before .before .first-space .ensures .0) ∙ c .before .if1 .taken)) (c .alone .ensures)
 
 returns-2 : tie.Need-returns-2
 returns-2 c =
@@ -20,7 +20,6 @@ pub sentence-spec : {M : Type 1} → statement M
 sentence-spec =
     tie.close
     (tie.spec
-    (λ c κs. search needs)
     (λ c κs. search needs)
     (λ c κs. search needs)
     returns

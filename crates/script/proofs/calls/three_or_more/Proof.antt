@@ -16,17 +16,17 @@ returns c = rw (words-one (c .before .before .before .before .before .before .ar
 
 returns-2 : tie.Need-returns-2
 returns-2 c =
-    let s = c .before .before .before .before .before .before .before .before .before .before .args in
-    let end = c .before .before .before .before .before .before .first-space in
+    let s = c .before .before .before .before .before .before .before .before .before .args in
+    let end = c .before .before .before .before .before .first-space in
     let z = rest (s .rest .now) (end .result + 1) in
-    rw (words-cut (s .rest .now) (end .result) (end .ensures .0) (omega arith), sentence-five (s .w .now) (s .x .now) (take (end .result) (s .rest .now)) z (omega arith)) (c .bad .ensures)
+    rw (words-cut (s .rest .now) (end .result) (end .ensures .0) (omega arith), sentence-five (s .w .now) (s .x .now) (take (end .result) (s .rest .now)) z (omega arith))
 
 returns-3 : tie.Need-returns-3
 returns-3 c =
-    let s = c .before .before .before .before .before .before .before .before .before .before .before .args in
-    let end = c .before .before .before .before .before .before .before .first-space in
+    let s = c .before .before .before .before .before .before .before .before .before .before .args in
+    let end = c .before .before .before .before .before .before .first-space in
     let z = rest (s .rest .now) (end .result + 1) in
-    rw (words-cut (s .rest .now) (end .result) (end .ensures .0) (omega arith), words-one z (omega arith), c .asking .ensures) (c .before .of-four .ensures)
+    rw (words-cut (s .rest .now) (end .result) (end .ensures .0) (omega arith), words-one z (omega arith)) (c .of-four .ensures)
 
 pub three-or-more-spec : {M : Type 1} → statement M
 three-or-more-spec =
@@ -41,8 +41,6 @@ three-or-more-spec =
     (λ c. search needs)
     (λ c. search needs)
     (λ c κs. search needs)
-    (λ c κs. search needs)
     returns-2
-    (λ c κs. search needs)
     (λ c κs. search needs)
     returns-3)

@@ -9,7 +9,7 @@ use Rattle.script.proofs.calls.two_or_more.Statement.{statement}
 use Rattle.script.proofs.calls.two_or_more.Tie as tie
 
 returns : tie.Need-returns
-returns c = rw (words-one (c .before .before .before .before .before .before .args .rest .now) (sym (c .before .before .before .first-space .ensures .0) ∙ c .before .before .if1 .taken)) (c .asking .ensures ∙ c .before .of-two .ensures)
+returns c = rw (words-one (c .before .before .before .before .before .args .rest .now) (sym (c .before .before .first-space .ensures .0) ∙ c .before .if1 .taken)) (c .of-two .ensures)
 
 returns-2 : tie.Need-returns-2
 returns-2 c =
@@ -20,7 +20,6 @@ pub two-or-more-spec : {M : Type 1} → statement M
 two-or-more-spec =
     tie.close
     (tie.spec
-    (λ c κs. search needs)
     (λ c κs. search needs)
     (λ c κs. search needs)
     returns

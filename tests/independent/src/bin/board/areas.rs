@@ -1,7 +1,8 @@
 //! Areas that may or may not hold a sound state.
 
-use independent::image::{image, BIRTH_COUNT, CAPACITY, IMAGE_BYTES, MODE, SLICE};
+use independent::image::{image, BIRTH_COUNT, CAPACITY, CHAIN, IMAGE_BYTES, LENGTH, MODE, SLICE};
 use independent::kernel::*;
+use independent::lengths::{edges, MOST_BUFFERS};
 use independent::random::Random;
 
 /// How many values are tried in the place of a byte; its own is left out.
@@ -49,7 +50,7 @@ pub fn damaged(images: &[Vec<u8>], random: &mut Random) -> Vec<u8> {
     let mut area = images[random.below(images.len())].clone();
     for _ in 0..random.between(1, 4) {
         let (at, other) = (random.below(area.len()), random.below(area.len()));
-        match random.below(9) {
+        match random.below(12) {
             0 => area[at] = random.next() as u8,
             1 => area[at] = random.below(70) as u8,
             2 => area[at] ^= 1 << random.below(8),
@@ -58,6 +59,9 @@ pub fn damaged(images: &[Vec<u8>], random: &mut Random) -> Vec<u8> {
             5 => area[BIRTH_COUNT + random.below(3)] = random.next() as u8,
             6 => area[CAPACITY + random.below(MAILBOXES)] = random.below(36) as u8,
             7 => area[MODE + random.below(MAILBOXES)] = random.below(4) as u8,
+            8 => area[CHAIN + random.below(BUFFERS)] = random.below(BUFFERS + 1) as u8,
+            9 => area.swap(CHAIN + random.below(BUFFERS), CHAIN + random.below(BUFFERS)),
+            10 => area[LENGTH + 1 + 2 * random.below(BUFFERS)] = random.below(18) as u8,
             _ => {
                 let from = &images[random.below(images.len())];
                 let end = (at + random.between(1, 70)).min(area.len());
@@ -105,7 +109,7 @@ fn displace(kernel: &mut Kernel, random: &mut Random) {
     let (mailbox, other) = (random.below(MAILBOXES), random.below(MAILBOXES));
     let class = random.below(CLASSES);
     let queued = kernel.mailboxes[other].messages.pop_back();
-    match random.below(22) {
+    match random.below(26) {
         0 => kernel.ready[class].push_back(kernel.running),
         1 => kernel.mailboxes[mailbox].waiters.push_back(kernel.running),
         2 => kernel.semaphores[mailbox].waiters.push_front(kernel.running),
@@ -137,19 +141,50 @@ fn displace(kernel: &mut Kernel, random: &mut Random) {
         16 => kernel.mailboxes[mailbox].capacity = random.below(LARGEST_CAPACITY + 4),
         17 => kernel.mailboxes[mailbox].mode = random.below(4) as u32,
         18 => kernel.mailboxes[mailbox].capacity = (kernel.mailboxes[mailbox].messages.len() + random.below(2)).saturating_sub(1),
+        19..=22 => disarrange(kernel, random),
         _ => {
             let Some(process) = &mut kernel.processes[number] else { return };
             match random.below(4) {
                 0 => process.ticks = random.below(kernel.slice as usize + 2) as u32,
                 1 => process.class = random.below(CLASSES + 1),
                 2 => process.hand = queued.clone(),
-                _ => process.hand = Some(Message { buffer: random.below(BUFFERS), bytes: vec![0; random.between(0, 513)] }),
+                _ => process.hand = Some(any_message(random)),
             }
         }
     }
     // Now and then the message is free now, or in two places.
     if random.one_in(2) {
         kernel.mailboxes[other].messages.extend(queued);
+    }
+}
+
+/// A message of a length at which another buffer is needed, mostly with as many as it needs, some of them perhaps twice.
+fn any_message(random: &mut Random) -> Message {
+    let length = random.pick(&edges()).unwrap_or(0);
+    let needed = buffers_needed(length);
+    let buffers = if random.one_in(4) { random.between(1, MOST_BUFFERS + 1) } else { needed };
+    let first = random.below(BUFFERS);
+    let step = random.pick(&[1, 1, 1, 5, 11, 31]).unwrap_or(1);
+    Message { buffers: (0..buffers).map(|number| (first + step * number) % BUFFERS).collect(), bytes: vec![0; length] }
+}
+
+/// Changes the buffers or the length of a message, one of several buffers if there is any.
+fn disarrange(kernel: &mut Kernel, random: &mut Random) {
+    let pages = kernel.held().filter(|message| message.buffers.len() > 1).count();
+    let (least, count) = if pages > 0 { (2, pages) } else { (1, kernel.held().count()) };
+    let chosen = random.below(count.max(1));
+    let Some(message) = kernel.held_mut().filter(|message| message.buffers.len() >= least).nth(chosen) else { return };
+    let (one, other) = (random.below(message.buffers.len()), random.below(message.buffers.len()));
+    match random.below(6) {
+        0 => message.buffers.swap(one, other),
+        1 => message.buffers[one] = random.below(BUFFERS),
+        2 => message.buffers.insert(one, random.below(BUFFERS)),
+        3 if message.buffers.len() > 1 => drop(message.buffers.remove(one)),
+        4 => {
+            message.buffers.truncate(one + 1);
+            message.bytes.truncate(BUFFER_BYTES * (one + 1));
+        }
+        _ => message.bytes.resize(random.pick(&edges()).unwrap_or(0), 0),
     }
 }
 

@@ -1,10 +1,11 @@
 //! The driver in C and what it must write: calls go out in batches, and each reply is compared.
 
 use independent::answer::{Answer, DONE, NOT_SOUND, NO_SUCH_PROCESS};
+use independent::buffers;
 use independent::call::{Call, Told};
 use independent::grammar::line_of;
 use independent::image::{image, IMAGE_BYTES};
-use independent::kernel::{Kernel, BUFFER_BYTES, MAILBOXES, PROCESSES};
+use independent::kernel::{Kernel, Message, MAILBOXES, PROCESSES};
 use independent::lent;
 use independent::listing::Row;
 use independent::mailboxes::{beyond_scripts, in_scripts, History};
@@ -102,6 +103,7 @@ pub struct Batch {
     questions: Tally,
     names: Tally,
     mailboxes: Tally,
+    buffers: Tally,
 }
 
 impl Batch {
@@ -185,22 +187,22 @@ impl Batch {
         *self.names.entry(what).or_default() += 1;
     }
 
-    /// Counts what a call meets at a mailbox that has been through this.
+    /// Counts what a call meets at a mailbox that has been through this, and what it does with buffers.
     pub fn count_visit(&mut self, kernel: &Kernel, history: &History, call: &Call) {
         for kind in history.kinds(kernel, call) {
             *self.mailboxes.entry(kind.to_string()).or_default() += 1;
+        }
+        for kind in buffers::kinds(kernel, call) {
+            *self.buffers.entry(kind).or_default() += 1;
         }
     }
 
     /// A call on the kernel's image: the kernel and the store are changed as they must be.
     pub fn call(&mut self, kernel: &mut Kernel, store: &mut [u8], call: &Call) {
         self.request_call(call);
-        let buffer = if let Call::Send(mailbox, _) = call { kernel.buffer_for(*mailbox) } else { None };
+        let sent = message_of(kernel, call);
         let (answer, told) = kernel.apply(call);
-        let change = match (call, buffer) {
-            (Call::Send(_, bytes), Some(buffer)) if answer.code == DONE => write_to(store, buffer * BUFFER_BYTES, bytes),
-            _ => (0, vec![]),
-        };
+        let change = sent.filter(|_| answer.code == DONE).map_or((0, vec![]), |message| write_to(store, &message));
         self.count_question(call, &answer, told.as_ref());
         self.expect(line_of(call), answer, image(kernel).to_vec(), change, lent_after(call, told.as_ref()));
     }
@@ -233,14 +235,21 @@ fn row_bytes(row: &Row) -> [u8; ROW_BYTES] {
     [place as u8, which as u8, position as u8, class as u8, ticks as u8, full as u8, low, high]
 }
 
-/// Writes to the store; gives the bytes from the first to the last that are others now.
-fn write_to(store: &mut [u8], at: usize, bytes: &[u8]) -> (usize, Vec<u8>) {
-    let differs = |(i, byte): (usize, &u8)| store[at + i] != *byte;
-    let first = bytes.iter().enumerate().position(differs);
-    let last = bytes.iter().enumerate().rposition(differs);
-    store[at..at + bytes.len()].copy_from_slice(bytes);
-    match (first, last) {
-        (Some(first), Some(last)) => (at + first, bytes[first..=last].to_vec()),
+/// The message that a send makes where it is done, with the buffers that it takes then.
+fn message_of(kernel: &Kernel, call: &Call) -> Option<Message> {
+    let Call::Send(mailbox, bytes) = call else { return None };
+    Some(Message { buffers: kernel.buffers_for(*mailbox, bytes.len())?, bytes: bytes.clone() })
+}
+
+/// Writes a message to the store; gives the bytes from the first to the last that are others now, with what is between.
+fn write_to(store: &mut [u8], message: &Message) -> (usize, Vec<u8>) {
+    let before = store.to_vec();
+    for (start, part) in message.parts() {
+        store[start..start + part.len()].copy_from_slice(part);
+    }
+    let differs = |place: &usize| store[*place] != before[*place];
+    match ((0..store.len()).find(differs), (0..store.len()).rfind(differs)) {
+        (Some(first), Some(last)) => (first, store[first..=last].to_vec()),
         _ => (0, vec![]),
     }
 }
@@ -273,6 +282,7 @@ pub struct Board {
     questions: Tally,
     names: Tally,
     mailboxes: Tally,
+    buffers: Tally,
 }
 
 impl Board {
@@ -280,8 +290,8 @@ impl Board {
         let mut driver = Command::new(&command[0]).args(&command[1..]).stdin(Stdio::piped()).stdout(Stdio::piped()).spawn()?;
         let requests = BufWriter::new(driver.stdin.take().expect("a pipe"));
         let replies = BufReader::new(driver.stdout.take().expect("a pipe"));
-        let [questions, names, mailboxes] = Default::default();
-        Ok(Board { driver, requests, replies, passed: 0, failed: 0, codes: [0; 64], questions, names, mailboxes })
+        let [questions, names, mailboxes, buffers] = Default::default();
+        Ok(Board { driver, requests, replies, passed: 0, failed: 0, codes: [0; 64], questions, names, mailboxes, buffers })
     }
 
     /// Makes the calls of a batch and compares each. A driver that stops is an error.
@@ -289,6 +299,7 @@ impl Board {
         add_all(&mut self.questions, &batch.questions);
         add_all(&mut self.names, &batch.names);
         add_all(&mut self.mailboxes, &batch.mailboxes);
+        add_all(&mut self.buffers, &batch.buffers);
         let (requests, replies) = (&mut self.requests, &mut self.replies);
         let (passed, failed, codes, driver) = (&mut self.passed, &mut self.failed, &mut self.codes, &mut self.driver);
         std::thread::scope(|scope| {
@@ -337,8 +348,13 @@ impl Board {
         println!("questions by answer: {}", shown(&self.questions));
         println!("names: {}", shown(&self.names));
         println!("at mailboxes: {}", shown(&self.mailboxes));
+        println!("with buffers: {}", shown(&self.buffers));
         for what in all_that_is_met().filter(|what| !self.mailboxes.contains_key(*what)) {
             println!("no call met this at a mailbox: {what}");
+            self.failed += 1;
+        }
+        for what in buffers::in_scripts().into_iter().chain(buffers::beyond_scripts()).filter(|what| !self.buffers.contains_key(what)) {
+            println!("no call did this with buffers: {what}");
             self.failed += 1;
         }
         for what in all_that_is_named().filter(|what| !self.names.contains_key(what)) {

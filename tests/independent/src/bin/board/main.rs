@@ -8,9 +8,11 @@ mod driver;
 use areas::{damaged, every_bit_flipped, every_byte_changed, every_size_changed, full_mailboxes, out_of_place, random_bytes};
 use driver::{Batch, Board};
 use independent::call::Call;
-use independent::grammar::{named_slice, parse};
+use independent::chains::{every_change, pages_everywhere};
+use independent::grammar::{named_slice, parse, SENT_BYTES};
 use independent::image::{decide, field_of, image, take_bytes, BIRTH_COUNT, CAPACITY, IMAGE_BYTES};
-use independent::kernel::{Kernel, BIRTHS, BUFFER_BYTES, LONGEST_SLICE, PROCESSES, STORE_BYTES};
+use independent::kernel::{Kernel, Message, BIRTHS, LONGEST_MESSAGE, LONGEST_SLICE, PROCESSES, STORE_BYTES};
+use independent::lengths::message;
 use independent::mailboxes::History;
 use independent::names::Born;
 use independent::random::Random;
@@ -27,8 +29,8 @@ const EVERY: usize = 9;
 const DAMAGED: usize = 20_000;
 const OUT_OF_PLACE: usize = 20_000;
 const RANDOM_AREAS: usize = 2_000;
-/// Rows of a table, tried in every state that a sequence leads to: none, too few, enough, more, and as many as
-/// tests/board/driver.c has.
+/// Rows of a table, tried in every state that a sequence leads to: none, too few, enough, more, and more than any table that
+/// tests/board/driver.c is given else.
 const TABLES: [usize; 7] = [0, 1, PROCESSES - 1, PROCESSES, PROCESSES + 1, PROCESSES + 2, 4_096];
 /// The most rows that a table is given between calls.
 const ROWS: usize = PROCESSES + 2;
@@ -42,16 +44,22 @@ const OTHER_NAMES: usize = 8;
 const REFUSED_SLICES: [u32; 11] = [0, 256, 257, 259, 511, 65_535, 65_536, 65_541, 0x8000_0003, 0xffff_ff05, u32::MAX];
 /// Slices that are used up, tick by tick.
 const USED_UP: [u32; 12] = [1, 2, 3, 4, 5, 6, 16, 127, 128, 129, 254, 255];
-/// Lengths of a state area that it must not have, that without mailboxes' sizes among them, up to the most that
-/// tests/board/driver.c has.
-const OTHER_LENGTHS: [usize; 9] = [0, 1, CAPACITY, IMAGE_BYTES - 2, IMAGE_BYTES - 1, IMAGE_BYTES + 1, 512, 2 * IMAGE_BYTES, 4_096];
+/// Lengths of a state area that it must not have, those without mailboxes' sizes and without chains among them, up to one that
+/// tests/board/driver.c has room for.
+const OTHER_LENGTHS: [usize; 9] = [0, 1, CAPACITY, IMAGE_BYTES - 32, IMAGE_BYTES - 1, IMAGE_BYTES + 1, 512, 2 * IMAGE_BYTES, 4_096];
+/// The longest message or room that is lent, for which tests/board/driver.c has room.
+const LONGEST_LENT: usize = 8_000;
 /// Fresh starts are made on so many areas of each kind: sound, damaged and random ones.
 const STARTED_AREAS: usize = 8;
 
-/// The same call with a number past all that a script can name. That of a stop is the name in its lowest 16 bits.
+/// The same call with a number past all that a script can name, or a longer message or room. The number of a stop is the name in
+/// its lowest 16 bits.
 fn enlarged(call: &Call, random: &mut Random) -> Call {
     let large = random.next() as u32 | 1 << 16;
+    let longer = random.between(SENT_BYTES + 1, LONGEST_LENT);
     match call {
+        Call::Send(mailbox, _) if random.one_in(4) => Call::Send(*mailbox, random.bytes(longer)),
+        Call::Read(_) => Call::Read(longer as u32),
         Call::Create(_) => Call::Create(large),
         Call::Stop(name) => Call::Stop((large & 0xffff_0000) + name),
         Call::Class(_) => Call::Class(large),
@@ -211,7 +219,7 @@ fn use_up(batch: &mut Batch, store: &mut [u8], slice: u32) {
 }
 
 fn all_whole(kernel: &Kernel, store: &[u8]) -> bool {
-    kernel.held().all(|message| store[message.buffer * BUFFER_BYTES..].starts_with(&message.bytes))
+    kernel.held().flat_map(Message::parts).all(|(start, part)| store[start..].starts_with(part))
 }
 
 /// A name, by the birth counts that an area has: mostly one of a number from 0 to 31.
@@ -235,12 +243,9 @@ fn any_call(area: &[u8], random: &mut Random) -> Call {
         3 => Call::Yield,
         4 => Call::Class(number % 6),
         5 => Call::Tick,
-        6 => {
-            let length = random.between(0, 40);
-            Call::Send(number, random.bytes(length))
-        }
+        6 => Call::Send(number, message(random)),
         7 => Call::Receive(number),
-        8 => Call::Read(random.between(0, 512) as u32),
+        8 => Call::Read(random.between(0, LONGEST_MESSAGE) as u32),
         9 => Call::Release,
         10 => Call::Signal(number),
         11 => Call::Mailbox(number, random.below(35) as u32, random.below(3) as u32),
@@ -305,6 +310,15 @@ fn resize_all(board: &mut Board, name: &str, store: &mut [u8], sound: &Kernel) -
     Ok(())
 }
 
+/// Changes the chains of buffers of a state in every way. Which of that leaves a sound state is known beforehand.
+fn rechain_all(board: &mut Board, name: &str, store: &mut [u8], sound: &Kernel) -> io::Result<()> {
+    let changes = every_change(sound);
+    let taken = judge_all(board, format!("chains changed, {name}"), store, changes.iter().map(|change| change.area.clone()))?;
+    let right: Vec<usize> = (0..changes.len()).filter(|&number| changes[number].is_sound).collect();
+    assert!(taken == right, "a chain is taken that is not right, or the other way round");
+    Ok(())
+}
+
 fn compare(board: &mut Board, today: u64) -> io::Result<()> {
     let mut store = vec![0; STORE_BYTES];
     let mut calls = 0;
@@ -327,8 +341,10 @@ fn compare(board: &mut Board, today: u64) -> io::Result<()> {
         flip_all(board, &name, &mut store, &area)?;
     }
     resize_all(board, "full mailboxes", &mut store, &full_mailboxes())?;
+    rechain_all(board, "pages everywhere", &mut store, &pages_everywhere())?;
     for seed in (0..FIXED_SEEDS as usize).step_by(EVERY) {
         resize_all(board, &format!("after seed {seed}"), &mut store, &kernels[seed])?;
+        rechain_all(board, &format!("after seed {seed}"), &mut store, &kernels[seed])?;
     }
     let mut random = Random::new(today);
     judge_all(board, format!("several bytes changed, seed {today}"), &mut store, (0..DAMAGED).map(|_| damaged(&images, &mut random)))?;

@@ -1,0 +1,3 @@
+pub mod Led
+pub mod Links
+pub mod Chained
