@@ -109,19 +109,26 @@ static inline int boxes_fit(const struct kernel *k) {
     return 1;
 }
 
-/* Each full hand gets its buffer, which has no other place; an empty one has 0. */
+static inline int all_zero(const uint8_t hand[CSENGADRUL_PROCESSES]) {
+    uint8_t wrong = 0;
+    unsigned p;
+    for (p = 0; p < CSENGADRUL_PROCESSES; p++) wrong |= hand[p] != 0;
+    return !wrong;
+}
+
+/* Each full hand, lowest first, gets its buffer, which has no other place; what is left in the hands is 0. */
 static inline int hands_fit(const uint8_t hand[CSENGADRUL_PROCESSES], uint32_t full, uint8_t at[MEMBERS]) {
+    uint8_t left[CSENGADRUL_PROCESSES];
     unsigned p, b;
-    for (p = 0; p < CSENGADRUL_PROCESSES; p++) {
-        b = hand[p];
-        if (full >> p & 1) {
-            if (b >= CSENGADRUL_BUFFERS || at[b]) return 0;
-            at[b] = IN_HAND;
-        } else if (b != 0) {
-            return 0;
-        }
+    memcpy(left, hand, sizeof left);
+    for (; full != 0; full &= full - 1) {
+        p = (unsigned)__builtin_ctz(full);
+        b = left[p];
+        if (b >= CSENGADRUL_BUFFERS || at[b]) return 0;
+        at[b] = IN_HAND;
+        left[p] = 0;
     }
-    return 1;
+    return all_zero(left);
 }
 
 static inline uint8_t length_fits(uint8_t place, uint16_t length) {
@@ -159,15 +166,33 @@ static inline int free_ones_rest(const struct kernel *k) {
     return !wrong;
 }
 
-/* Whether the messages have all buffers that are not free, none twice. */
-static inline int chains_fit(const struct kernel *k, const uint8_t at[MEMBERS]) {
-    uint8_t need[MEMBERS];
+static inline int all_separate(const uint8_t chain[MEMBERS]) {
+    uint8_t wrong = 0;
+    unsigned b;
+    for (b = 0; b < CSENGADRUL_BUFFERS; b++) wrong |= chain[b] != b;
+    return !wrong;
+}
+
+static inline int all_single(const uint8_t need[MEMBERS], uint32_t free) {
+    uint8_t wrong = 0;
+    unsigned b;
+    for (b = 0; b < CSENGADRUL_BUFFERS; b++) wrong |= need[b] != !(free >> b & 1);
+    return !wrong;
+}
+
+static inline int walks_fit(const struct kernel *k, const uint8_t need[MEMBERS]) {
     uint32_t open = ~k->free;
     unsigned b;
-    find_needs(k->length, at, need);
     for (b = 0; b < CSENGADRUL_BUFFERS; b++)
         if (!walk_chain(k->chain, b, need[b], &open)) return 0;
     return open == 0 && free_ones_rest(k);
+}
+
+/* Whether the messages have all buffers that are not free, none twice: a short way where each links to itself. */
+static inline int chains_fit(const struct kernel *k, const uint8_t at[MEMBERS]) {
+    uint8_t need[MEMBERS];
+    find_needs(k->length, at, need);
+    return all_separate(k->chain) ? all_single(need, k->free) : walks_fit(k, need);
 }
 
 static inline int mail_sound(const struct kernel *k) {

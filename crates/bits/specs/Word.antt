@@ -1,4 +1,4 @@
--- A word as one bit for each number below its width: the terms in which the contracts of this crate are written.
+-- A word as one bit for each number below its width.
 -- Assumes nothing.
 use Prim.Native.Nat.{ℕ, zero, suc, _+_, _*_, _/_, _%_, _^_}
 use mathlib.Core.Bool.{Bool, true, false}

@@ -11,7 +11,7 @@ ghost use Rattle.chains.specs.Links.{num};
 ghost use Rattle.chains.specs.Chained.{Separate, Single};
 
 // Whether each links to itself.
-pub fn separate(chain: [Bid; sizes::BUFFERS]) -> bool
+pub(crate) fn separate(chain: [Bid; sizes::BUFFERS]) -> bool
     ensures { λ r. ⌜ Decides r (Separate (map num chain)) ⌝ }
 {
     let mut all = true;
@@ -32,7 +32,7 @@ fn byte_of(w: u32, b: usize) -> u8
 }
 
 // Whether bit b is on. As `bits::has_bit`, but by bytes: a loop over this is compiled to far fewer instructions.
-pub fn in_byte(w: u32, b: usize) -> bool
+pub(crate) fn in_byte(w: u32, b: usize) -> bool
     ensures { λ r. ⌜ (b < width → r ≡ bits w b) ⌝ }
 {
     let mask = 1u8 << (b % 8);
@@ -47,7 +47,7 @@ fn single(need: u8, free: bool) -> bool
 }
 
 // The same for all.
-pub fn all_single(need: [u8; sizes::BUFFERS], free: u32) -> bool
+pub(crate) fn all_single(need: [u8; sizes::BUFFERS], free: u32) -> bool
     ensures { λ r. ⌜ Decides r ((b : ℕ) → b < width → Single need (bits free) b) ⌝ }
 {
     let mut all = true;

@@ -112,7 +112,7 @@ fn all_rest(links: &[u8; sizes::BUFFERS], free: u32) -> bool
 }
 
 // Whether the table links each message's buffers, as many as it needs, all that are not free and no other.
-pub fn chained(chain: [Bid; sizes::BUFFERS], need: [u8; sizes::BUFFERS], free: u32) -> bool
+pub(crate) fn chained(chain: [Bid; sizes::BUFFERS], need: [u8; sizes::BUFFERS], free: u32) -> bool
     ensures { λ r. ⌜ Decides r (Chained (map num chain) need (bits free)) ⌝ }
 {
     let links = bytes_of(chain);

@@ -1,7 +1,9 @@
 pub mod Holds
 pub mod Promise
 pub mod Theorems
+pub mod Asked
 pub mod Names
+pub mod Pages
 pub mod Facts
 pub mod Judged
 pub mod Full

@@ -7,7 +7,7 @@ use mathlib.Core.Path.{_≡_}
 use lib.ListN.{length}
 use Rattle.plain.specs.Listing as Plain
 use Rattle.plain_laws.specs.History.{isRefusal}
-use Rattle.promise.specs.Theorems.{Anywhere}
+use Rattle.promise.specs.Asked.{Anywhere}
 use Rattle.kernel.specs.Promise.{said}
 use Rattle.kernel.specs.declared.Answer.{Answer}
 use Rattle.board.specs.Area.{Lies}

@@ -40,7 +40,7 @@ abbrev pub firstIn : Option Message → List ℕ
 firstIn none = []
 firstIn (some x) = firstOf x ∷ []
 
--- the buffer that stands for a hand; 0 for an empty one
+-- 0 for an empty hand
 abbrev pub bufferIn : Option Message → ℕ
 bufferIn none = 0
 bufferIn (some x) = firstOf x
@@ -51,7 +51,7 @@ isFull hand p = not (isEmpty (hand p))
 abbrev pub isFree : (ℕ → List Message) → (ℕ → Option Message) → ℕ → Bool
 isFree box hand b = eqb (held box hand b) 0
 
--- these lengths and these links have message x: its length at its first buffer, and its buffers linked from there, as many as it needs
+-- the tables have message x: its length at its first buffer, and its buffers linked from there, as many as it needs
 pub record Has (lengths chain : List ℕ) (x : Message) : Type 0 where
   pub long : getD lengths (firstOf x) 0 ≡ length (x .bytes)
   pub led : Led chain (firstOf x) (x .lies)
@@ -62,7 +62,7 @@ pub record NoneAt (box : ℕ → List Message) (hand : ℕ → Option Message) (
   pub queued : (m : ℕ) → occurs b (firsts (box m)) ≡ 0
   pub in-hands : (p : ℕ) → occurs b (firstIn (hand p)) ≡ 0
 
--- k holds these mailboxes and hands: the links between messages are the rings of their first buffers, a bit for each full hand and each free buffer, zeros in empty hands and where no message begins, and a free buffer linked to itself
+-- k holds these mailboxes and hands: rings of first buffers, a bit for each full hand and each free buffer, zeros in empty hands and where no message begins, a free buffer linked to itself
 pub record Carries (k : Numbers) (box : ℕ → List Message) (hand : ℕ → Option Message) : Type 0 where
   pub hands-long : length (k .hand) ≡ processes
   pub lengths-long : length (k .length) ≡ buffers

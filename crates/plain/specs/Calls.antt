@@ -34,7 +34,7 @@ pub record Answer : Type 0 where
   pub number : ℕ
   pub running : ℕ
 
--- What a call gives: its answer, the bytes that a successful read copies to the start of the room, and the state after it.
+-- What a call gives: its answer, the bytes that a read copies to the room, and the state after it.
 pub record Outcome : Type 0 where
   pub answer : Answer
   pub message : List ℕ
@@ -132,8 +132,8 @@ perform s release = done 0 (give (caller s) none s)
 perform s (signal k) = done 0 (wake k (s .procs .queue (atSemaphore k)) s)
 perform s (wait k) = claim k (s .count k) s
 
--- ---- what is refused: each call's refusals in the order of document 01, each with its code, its number, and whether it holds
--- 14 and 15 are judged before these and belong to the code: a plain state is sound if calls led to it, and its messages carry their own bytes.
+-- ---- what is refused, in the order of document 01
+-- 14 and 15 are judged before these and belong to the code.
 
 pub record Refusal : Type 0 where
   pub code : ℕ

@@ -44,15 +44,15 @@ refuses m s = isFull m s && not (drops m s)
 unfoldable pub overflows : ℕ → State → Bool
 overflows m s = isFull m s && drops m s
 
--- what a send to m finds: "A send to a full mailbox that drops loses its oldest message, whose buffer becomes free", by request 6 all of its buffers
+-- what a send to m finds: "A send to a full mailbox that drops loses its oldest message"
 unfoldable pub relieved : ℕ → State → State
 relieved m s = if overflows m s then fill m (drop 1 (s .box m)) s else s
 
--- ".. and then the lowest free buffer, that one included, is taken": by request 6 as many as bytes b need, in which they lie
+-- ".. and then the lowest free buffer, that one included, is taken": by request 6 as many as bytes b need
 abbrev pub buffersFor : ℕ → List ℕ → State → List ℕ
 buffersFor m b s = lowestFree (needed (length b)) (relieved m s)
 
--- "12: no free buffer (send only)": by request 6 "fewer buffers are free than the message needs, after any drop"; refused, a send drops nothing
+-- "12: no free buffer (send only)": by request 6 "fewer buffers are free than the message needs, after any drop"
 abbrev pub noBuffers : ℕ → List ℕ → State → Bool
 noBuffers m b s = tooFew (needed (length b)) (relieved m s)
 

@@ -28,7 +28,7 @@ name births p = p + rounds * births p
 unfoldable pub bare : ℕ → ℕ
 bare n = n % rounds
 
--- n is the name of the number in it, by the birth count that is kept now: every call that takes a process goes by this
+-- n is the name of the number in it, by the birth count that is kept now
 unfoldable pub names : (ℕ → ℕ) → ℕ → Bool
 names births n = ltb (bare n) processes && eqb n (name births (bare n))
 

@@ -40,8 +40,7 @@ pick p s = run p (lines (λ q. without p (s .queue q)) s)
 abbrev pub above : ℕ → Procs → Bool
 above p s = eqb (s .running) 0 || ltb (level s (s .running)) (level s p)
 
--- "p joins the rear of its class with 3 ticks; if its class is above the running one's, or 0 runs, p is then chosen, and a running process other
--- than 0 goes to the front of its class with its ticks left"
+-- "p joins the rear of its class with 3 ticks; if .., p is then chosen, and .."
 unfoldable pub makeReady : ℕ → ℕ → Procs → Procs
 makeReady n p s =
     let joined : Procs = join n (level s p) p s in

@@ -13,14 +13,14 @@ use Rattle.plain.specs.Pages.{Whole}
 use Rattle.plain.specs.Names.{Births}
 use Rattle.plain.specs.Start.{Set}
 
--- p stands in queue q; who stands in none and does not run is unused
+-- p stands in queue q
 abbrev pub In : Procs → ℕ → ℕ → Type 0
 In s q p = 1 ≤ occurs p (s .queue q)
 
 abbrev pub Used : Procs → ℕ → Type 0
 Used s p = 1 ≤ places s p
 
--- The processes, `slice` ticks to a slice. What is said of the runner says nothing where 0 runs, so it also holds midway in a call, before one is chosen.
+-- The processes, `slice` ticks to a slice. It also holds midway in a call, before one is chosen.
 pub record Seated (slice : ℕ) (s : Procs) : Type 0 where
   -- "Each process 1 to 31 is in exactly one place: unused, running, ready in the queue of its own class, waiting at one mailbox, or waiting at one semaphore."
   pub one-place : (p : ℕ) → 1 ≤ p → places s p ≤ 1

@@ -25,7 +25,7 @@ sliceOf n = record { slice = n; capacity = usual .capacity; mode = usual .mode }
 abbrev pub noSlice : ℕ → Refusal
 noSlice n = on 16 (eqb n 0 || ltb longestSlice n)
 
--- 14 is judged before it and belongs to the code, as with every call
+-- 14 is judged before it
 abbrev pub startRefusals : ℕ → List Refusal
 startRefusals n = noSlice n ∷ []
 

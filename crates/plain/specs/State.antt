@@ -90,12 +90,12 @@ score k n s = record { procs = s .procs; hand = s .hand; box = s .box; count = p
 
 -- ---- what is said of messages
 
--- of each of these
+-- of each
 abbrev pub Each : (Message → Type 0) → List Message → Type 0
 Each P [] = Unit {0}
 Each P (x ∷ l) = P x × Each P l
 
--- of the one in a hand, if there is one
+-- of the one in a hand
 abbrev pub InHand : (Message → Type 0) → Option Message → Type 0
 InHand P none = Unit {0}
 InHand P (some x) = P x

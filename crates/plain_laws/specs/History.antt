@@ -13,7 +13,7 @@ use Rattle.plain.specs.Mailboxes.{allotted, overflows}
 use Rattle.plain.specs.Runs.{standDown, pick}
 use Rattle.plain.specs.Calls.{Call, create, stop, end, yield, class, tick, mailbox, send, receive, read, release, signal, wait, Answer, Refusal, Outcome, step}
 
--- what a call is to the counts and the settings: a tick, a send to m, a receive from m, a setting of m's capacity and mode, or none of these
+-- what a call is to the counts and the settings
 pub data Kind : Type 0 where
   falls : Kind
   posts : ℕ → Kind
@@ -62,7 +62,7 @@ inOrder (k ∷ ks) [] = false
 inOrder [] (o ∷ os) = true
 inOrder (k ∷ ks) (o ∷ os) = if eqb k o then inOrder ks os else inOrder (k ∷ ks) os
 
--- "14, then 15, 5, then 1 to 4, then 6, 7, 8, 10, 11, 12, 13, 9", "16 .. after 14" (request 3), and 17 and 18 after 3 (request 5): 14, 16 and 15 are judged before a call's own
+-- "14, then 15, 5, then 1 to 4, then 6, 7, 8, 10, 11, 12, 13, 9", "16 .. after 14" (request 3), and 17 and 18 after 3 (request 5)
 abbrev pub own : List ℕ
 own = 5 ∷ 1 ∷ 2 ∷ 3 ∷ 17 ∷ 18 ∷ 4 ∷ 6 ∷ 7 ∷ 8 ∷ 10 ∷ 11 ∷ 12 ∷ 13 ∷ 9 ∷ []
 
@@ -104,7 +104,7 @@ isDropped m s other = false
 abbrev pub isDone : Outcome → Bool
 isDone o = eqb (o .answer .code) 0
 
--- how many sends to m were accepted, how many messages went from m into a hand, and how many m dropped, counted from the history
+-- how many sends to m were accepted, how many messages went from m into a hand, and how many m dropped
 unfoldable pub sent : ℕ → State → List Call → ℕ
 sent m s [] = 0
 sent m s (c ∷ cs) = as-one (isDone (step s c) && isSend m (kind c)) + sent m (step s c .next) cs
@@ -187,7 +187,7 @@ joiners r (wait k) = []
 abbrev pub joined : Moment → List ℕ
 joined m = if isRefusal (m .answer) then [] else joiners (m .from) (m .call)
 
--- what a moment would be if the last one ran first: whoever joins the rear is chosen in the same call
+-- a moment if whoever joins the rear were chosen in the same call
 abbrev pub chosenAtOnce : List ℕ → Procs → Procs
 chosenAtOnce [] r = r
 chosenAtOnce (x ∷ l) r = pick x (standDown r)
@@ -212,7 +212,7 @@ unfoldable pub turnsBefore : ℕ → ℕ → List Moment → ℕ
 turnsBefore x p [] = 0
 turnsBefore x p (m ∷ ms) = if isOver (m .to) p then 0 else as-one (onDuty (m .to) p x) + turnsBefore x p ms
 
--- how often one who has joined the rear meanwhile, `late` before these moments, runs as one of p's class, until p runs or is stopped; also who joins and is chosen in the same call
+-- how often one who has joined the rear meanwhile, `late` before these moments, runs as one of p's class, until p runs or is stopped
 unfoldable pub overtaken : List ℕ → ℕ → List Moment → ℕ
 overtaken late p [] = 0
 overtaken late p (m ∷ ms) =

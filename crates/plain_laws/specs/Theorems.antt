@@ -11,7 +11,7 @@ use Rattle.plain.specs.Start.{Set, sliceOf, noSlice, startRefusals, freshStart}
 use Rattle.plain.specs.Sound.{Sound}
 use Rattle.plain_laws.specs.History.{First, codes, inOrder, order, isRefusal, kind, sent, gone, dropped, settingsBy, Ready, isAhead, countAhead, Moment, moments, ticksSeen, turnsBefore, overtaken}
 
--- 1. A fresh state is sound with any settings x that may be set, the usual ones among them; every call keeps that, and so every state that calls lead to from fresh is sound. The slice "is fixed at the fresh start"; of the other settings `mailbox` alone changes any, those that it names.
+-- 1. A fresh state is sound with any settings that may be set, and every call keeps that. The slice "is fixed at the fresh start"; of the other settings `mailbox` alone changes any.
 pub record Soundness : Type 0 where
   pub usual-set : Set usual
   pub at-first : (x : Settings) → Set x → Sound (start x)
@@ -20,7 +20,7 @@ pub record Soundness : Type 0 where
   pub slice-stays : (s : State) (c : Call) → step s c .next .settings .slice ≡ s .settings .slice
   pub settings-by : (s : State) (c : Call) → isRefusal (step s c .answer) ≡ false → step s c .next .settings ≡ settingsBy (kind c) (s .settings)
 
--- The fresh start with n ticks named is refused exactly where these may not be set, 16 coming "after 14", and else begins with them; what it leads to is sound in any case.
+-- The fresh start is refused exactly where its n ticks may not be set, 16 coming "after 14"; what it leads to is sound in any case.
 pub record FreshStarts : Type 0 where
   pub taken : (n : ℕ) → Set (sliceOf n) → freshStart n ≡ done 0 (start (sliceOf n))
   pub given : (n : ℕ) → (Set (sliceOf n) → ⊥) → freshStart n ≡ refused (noSlice n) fresh
@@ -39,7 +39,7 @@ abbrev pub Messages : Type 0
 Messages = (x : Settings) (m : ℕ) (cs : List Call) → sent m (start x) cs ≡ length (after (start x) cs .box m) + gone m (start x) cs + dropped m (start x) cs
 
 -- 4. Demand 3 (docs/KERNEL.md), for every p that is ready in a state that calls lead to from fresh, whatever is called then.
--- p is ready where the processes stand as in r, and `ms` is what follows. Nothing of the slice is used but that it is at least 1.
+-- p is ready where the processes stand as in r, and `ms` is what follows.
 pub record Fair (slice : ℕ) (r : Procs) (p : ℕ) (ms : List Moment) : Type 0 where
   -- "sees at most 3 k ticks fall while its class runs before it runs or is stopped", k of its class being ahead of it: by request 3 "slice times k"
   pub few-ticks : ticksSeen p ms ≤ slice * countAhead r p

@@ -8,7 +8,7 @@ use Rattle.plain.specs.Sound.{Sound}
 use Rattle.plain.specs.State.{State}
 use Rattle.plain.specs.Why as Plain
 use Rattle.plain.specs.Why.{Reason, Says}
-use Rattle.promise.specs.Theorems.{Anywhere}
+use Rattle.promise.specs.Asked.{Anywhere}
 use Rattle.kernel.specs.Promise.{said}
 use Rattle.reasons.specs.declared.Explained.{Explained}
 use Rattle.reasons.specs.Reasons.{meant, Explains}

@@ -1,6 +1,7 @@
 // Whether the mail of a state is sound by itself: every buffer is free, or one of a message that is queued once or in one hand.
 // Nothing is assumed of what stands in the fields.
-use bits::has_bit;
+use bits::lowest_bit;
+use bits::without_bit;
 use boxes::bytes_of;
 use chains::chained;
 use chains::needs;
@@ -24,7 +25,7 @@ ghost use Rattle.boxes.specs.Box.{num};
 ghost use Rattle.habits.specs.Tables.{capacityIn};
 ghost use Rattle.mail.specs.Carries.{numbers};
 ghost use Rattle.stock.specs.Stock.{Decision};
-ghost use Rattle.stock.specs.Tests.{AllBuffers, BufferFits, Few, Grasped, Handed, MessagesFit, Queued};
+ghost use Rattle.stock.specs.Tests.{AllBuffers, AllEmpty, BufferFits, Few, Grasped, Handed, MessagesFit, Queued};
 
 const MAILBOXES: u32 = sizes::MAILBOXES as u32;
 
@@ -56,14 +57,11 @@ fn few(next: &[u8; NODES], capacity: [u8; sizes::MAILBOXES]) -> bool
     true
 }
 
-// A full hand gets its buffer b, which is at no other place; an empty one has 0.
-fn grasp(at: &mut [u8; BUFFERS], full: bool, b: Bid) -> bool
+// A full hand gets its buffer b, which is at no other place.
+fn grasp(at: &mut [u8; BUFFERS], b: Bid) -> bool
     requires { ⌜ length (now at) ≡ buffers ⌝ }
-    ensures { λ r. ⌜ Grasped (now (at .entry)) full (b .0) r (now (at .exit)) × (length (now (at .exit)) ≡ buffers) ⌝ }
+    ensures { λ r. ⌜ Grasped (now (at .entry)) (b .0) r (now (at .exit)) × (length (now (at .exit)) ≡ buffers) ⌝ }
 {
-    if !full {
-        return b.0 == 0;
-    }
     let i = b.0 as usize;
     if BUFFERS <= i {
         return false;
@@ -75,20 +73,41 @@ fn grasp(at: &mut [u8; BUFFERS], full: bool, b: Bid) -> bool
     true
 }
 
-// Each hand in turn gets its buffer; at first only the queued ones have a place.
+// Whether every hand has 0. All are asked, with no early exit: so compiled, several at once.
+fn all_empty(hand: [Bid; PROCESSES]) -> bool
+    ensures { λ r. ⌜ Decides r (AllEmpty (map num hand)) ⌝ }
+{
+    let mut all = true;
+    let mut p = 0;
+    while p < PROCESSES {
+        let b = hand[p];
+        all = all & (b.0 == 0);
+        p += 1;
+    }
+    all
+}
+
+// Each full hand in turn, lowest first, gets its buffer; at first only the queued ones have a place. The other hands have 0.
 fn handed(at: [u8; BUFFERS], hand: [Bid; PROCESSES], full: Pids) -> Places
     ensures { λ r. ⌜ Handed at (map num hand) (full .0) (r .ok) (r .at) ⌝ }
 {
     let mut s = at;
-    let mut p = 0;
-    while p < PROCESSES {
-        let b = hand[p];
-        if !grasp(&mut s, has_bit(full.0, p as u32), b) {
+    let mut rest = hand;
+    let mut todo = full.0;
+    while todo != 0 {
+        let p = lowest_bit(todo);
+        let i = p as usize;
+        let b = rest[i];
+        if !grasp(&mut s, b) {
             return Places { ok: false, at: s };
         }
-        p += 1;
+        rest[i] = Bid(0);
+        todo = without_bit(todo, p);
     }
-    Places { ok: true, at: s }
+    Places {
+        ok: all_empty(rest),
+        at: s,
+    }
 }
 
 // Whether a buffer at this place has a length that it may have there.
