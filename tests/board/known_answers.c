@@ -10,7 +10,7 @@
 
 #define MOST ((size_t)-1)
 #define HUGE_LENGTH ((size_t)1 << 40)
-#define STACK_LIMIT 4096 /* bytes: what docs/BOARD.md tells firmware to keep for a call */
+#define STACK_LIMIT 5120 /* bytes: what docs/BOARD.md tells firmware to keep for a call */
 /* A call works on a copy of the state, so that a refusal changes nothing, and returns to its caller. */
 #define STACK_LEAST (CSENGADRUL_STATE_SIZE + sizeof(void *))
 #define ROW_BYTE 0xee
