@@ -2,17 +2,13 @@
 -- Assumes nothing.
 use Prim.Native.Nat.{ℕ, zero, suc, _+_, _≤_, _<_}
 use mathlib.Core.Path.{_≡_, refl, sym, ap, _∙_, subst}
-use mathlib.Core.Bool.{Bool, true, false, not}
 use mathlib.Core.Logic.{_≢_, ⊎-elim}
 use mathlib.Core.List.{List, [], _∷_, _++_}
 use native.Mathlib.Omega.{arith}
-use lib.Dec.{eqb}
-use borrow.Author.Tests.{lt-ltb}
-use Rattle.lists.specs.Lists.{put, one, occurs, total, someone, those}
+use Rattle.lists.specs.Lists.{put, one, occurs, total, someone}
 use Rattle.lists.proofs.Laws.{same?, le?, put-same, put-other, one-same, one-other, occurs-append, total-zero, total-change}
 use Rattle.bits.specs.Word.{bit, width}
-use Rattle.lists.proofs.Those.{those-same}
-use Rattle.chains.specs.Chained.{used, spread}
+use Rattle.chains.specs.Chained.{spread}
 use Rattle.chains.proofs.Bits.{bit-le}
 
 -- the sum of g along a list
@@ -74,11 +70,3 @@ joined f beyond m k box hand h p =
     none : (r : List ℕ) → bit (someone r) ≡ 0 → occurs p r ≡ 0
     none [] e = refl
     none (x ∷ r) e = absurd (omega arith)
-
--- so the buffers that no message has are the free ones, lowest first
-pub free-are : (free : ℕ → Bool) (held : ℕ → ℕ) → ((p : ℕ) → held p ≡ bit (used free p)) → those 0 width (λ p. eqb (held p) 0) ≡ those 0 width free
-free-are free held h = those-same 0 width (λ p. eqb (held p) 0) free (λ p a i. rw (h p, lt-ltb p width i) (go (free p)))
-  where
-    go : (v : Bool) → eqb (bit (not v)) 0 ≡ v
-    go true = refl
-    go false = refl

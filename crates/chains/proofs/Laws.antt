@@ -76,6 +76,11 @@ linked-led t x (y ∷ l) h =
     let e : after u x ≡ y = linked-other s (y ∷ l) x (omega (arith, h .0 x, one-same x)) ∙ getD-set-same t x y 0 (h .1 x (omega (arith, one-same x))) in
     on (subst (λ (z : ℕ). Led u z (y ∷ l)) (sym e) (linked-led s y l (λ p. omega (arith, h .0 p), λ p o. omega (arith, h .1 p (omega arith), length-set t x y))))
 
+-- the same of a list that has a first one
+pub linked-list : (t l : List ℕ) → 1 ≤ length l → Once (length t) l → Led (linkUp t l) (getD l 0 0) l
+linked-list t [] z h = absurd (omega arith)
+linked-list t (x ∷ l) z h = linked-led t x l h
+
 -- ---- linked to themselves
 
 pub alone-length : (t l : List ℕ) → length (alone t l) ≡ length t

@@ -6,5 +6,4 @@ pub mod Lows
 pub mod Turns
 pub mod Reading
 pub mod Own
-pub mod Tables
 pub mod Joins

@@ -6,32 +6,14 @@ use mathlib.Core.Bool.{Bool, true, false}
 use mathlib.Core.Logic.{_≢_, ⊎-elim}
 use mathlib.Core.List.{List, [], _∷_}
 use native.Mathlib.Omega.{arith}
-use lib.ListN.{length, getD, take}
-use lib.Seq.{length-take-le}
+use lib.ListN.{getD, take}
 use borrow.Author.Tests.{eq-eqb, ne-eqb}
-use Rattle.lists.specs.Lists.{if_then_else_, put, occurs, lowest, those}
-use Rattle.lists.proofs.Laws.{either, same?, le?, put-other, lowest-passes}
-use Rattle.lists.proofs.Those.{those-past, those-fails, those-once, those-same, take-occurs}
+use Rattle.lists.specs.Lists.{if_then_else_, put, lowest, those}
+use Rattle.lists.proofs.Laws.{either, same?, put-other, lowest-passes}
+use Rattle.lists.proofs.Those.{those-same}
 use Rattle.bits.specs.Word.{word, bits, width}
 use Rattle.bits.proofs.Words.{word-has}
 use Rattle.chains.specs.Links.{lows}
-use Rattle.chains.proofs.Laws.{Once}
-
--- ---- which they are
-
-module _ (n : ℕ) (free : ℕ → Bool) where
-  pub lows-free : (p : ℕ) → 1 ≤ occurs p (lows n free) → (p < width) × (free p ≡ true)
-  lows-free p o =
-      let m = take-occurs p n (those 0 width free) in (
-        ⊎-elim (λ (h : width ≤ p). absurd (omega (arith, those-past p 0 width free h))) (λ (h : p < width). h) (le? width p),
-        ⊎-elim (λ (e : free p ≡ true). e) (λ (e : free p ≡ false). absurd (omega (arith, those-fails p 0 width free e))) (either (free p)),
-      )
-
-  pub lows-once : Once width (lows n free)
-  lows-once = (λ p. omega (arith, take-occurs p n (those 0 width free), those-once p 0 width free), λ p o. lows-free p o .0)
-
-  pub lows-length : n ≤ length (those 0 width free) → length (lows n free) ≡ n
-  lows-length h = length-take-le n (those 0 width free) h
 
 -- those of a word that is known by its test
 pub word-lows : (n : ℕ) (f : ℕ → Bool) {w : ℕ} → w ≡ word width f → lows n (bits w) ≡ lows n f

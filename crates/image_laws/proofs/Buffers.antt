@@ -8,9 +8,9 @@ use lib.ListN.{length, getD, set, replicate, length-set, length-replicate}
 use lib.Seq.{getD-set-same}
 use Rattle.lists.specs.Lists.{occurs}
 use Rattle.lists.proofs.Laws.{one-same, occurs-append, zeros}
-use Rattle.chains.specs.Led.{after, Led}
+use Rattle.chains.specs.Led.{after}
 use Rattle.chains.specs.Links.{own, linkUp}
-use Rattle.chains.proofs.Laws.{Once, linked-length, linked-other, linked-led, own-length, own-after}
+use Rattle.chains.proofs.Laws.{Once, linked-length, linked-other, linked-list, own-length, own-after}
 use Rattle.plain.specs.Pages.{needed, Whole}
 use Rattle.plain.specs.Sizes.{buffers}
 use Rattle.plain.specs.State.{Message, Each, buffersOf}
@@ -51,10 +51,6 @@ left-alone (x ∷ l) b h z =
     let parts = occurs-append b (x .lies) (buffersOf l) in
     linked-other (linksOf l) (x .lies) b (omega arith) ∙ left-alone l b h (omega arith)
 
-linked : (t l : List ℕ) → 1 ≤ length l → Once (length t) l → Led (linkUp t l) (getD l 0 0) l
-linked t [] some o = absurd (omega arith)
-linked t (x ∷ l) some o = linked-led t x l o
-
 pub had : (l : List Message) → Each Whole l → Once buffers (buffersOf l) → Each (Has (lengthsOf l) (linksOf l)) l
 unfolding lengthsOf linksOf needed
 had [] w o = tt
@@ -64,7 +60,7 @@ had (x ∷ l) w o =
     let parts : (p : ℕ) → occurs p (buffersOf (x ∷ l)) ≡ occurs p (x .lies) + occurs p (buffersOf l) = λ p. occurs-append p (x .lies) (buffersOf l) in (
       record {
         long = getD-set-same (lengthsOf l) (firstOf x) (length (x .bytes)) 0 (omega (arith, lengths-long l, o .1 (firstOf x) (omega (arith, parts (firstOf x)))));
-        led = linked (linksOf l) (x .lies) some (λ p. omega (arith, o .0 p, parts p), λ p h. omega (arith, links-long l, o .1 p (omega (arith, parts p))));
+        led = linked-list (linksOf l) (x .lies) some (λ p. omega (arith, o .0 p, parts p), λ p h. omega (arith, links-long l, o .1 p (omega (arith, parts p))));
         many = w .0 .many;
       },
       each-kept (lengthsOf l) (lengthsOf (x ∷ l)) (linksOf l) (linksOf (x ∷ l)) (x .lies)

@@ -1,23 +1,23 @@
 -- Mailboxes of the code and of the plain kernel: which are full, busy, or lose their oldest message, and one that is set anew.
 -- Assumes nothing.
 use Prim.Native.Nat.{ℕ, _%_, _≤_, _<_}
-use mathlib.Core.Bool.{Bool, true, false, not, _&&_, _||_, Bool·not-not}
+use mathlib.Core.Bool.{Bool, true, false, not, _&&_, Bool·not-not}
 use mathlib.Core.List.{List, [], _∷_}
 use mathlib.Core.Logic.{⊎-elim}
 use mathlib.Core.Path.{_≡_, refl, sym, ap, ap₂, _∙_, subst}
 use native.Mathlib.Omega.{arith}
-use lib.Dec.{leb, eqb, ltb}
+use lib.Dec.{leb, eqb}
 use lib.ListN.{length, set, length-set}
 use borrow.Author.Tests.{leb-false}
 use Rattle.lists.proofs.Laws.{either, le?}
 use Rattle.plain.specs.Calls as Plain
 use Rattle.plain.specs.Calls.{on, noMailbox}
 use Rattle.plain.specs.Mailboxes.{allotted, allot, busy, isFull, drops, refuses, overflows, relieved, buffersFor, noBuffers}
-use Rattle.plain.specs.Sizes.{processes, mailboxes, longest, storeSize, atMailbox}
+use Rattle.plain.specs.Sizes.{mailboxes, longest, storeSize, atMailbox}
 use Rattle.plain.specs.Pages.{needed}
 use Rattle.plain.specs.Sound.{Sound}
 use Rattle.plain.specs.State as State
-use Rattle.plain.specs.State.{Settings, State, usual, start}
+use Rattle.plain.specs.State.{Settings, State, usual}
 use Rattle.plain_laws.proofs.Mail.{taken-range}
 use Rattle.plain_laws.proofs.Relief.{relieved-cases, overflow-full}
 use Rattle.plain_laws.proofs.Sound.{relieved-sound}
@@ -36,7 +36,7 @@ use Rattle.mail.specs.declared.Mail as Mail′
 use Rattle.habits.proofs.Laws.{entry-set}
 use Rattle.verdicts.specs.Chain.{found}
 use Rattle.kernel.specs.Full.{isFullAt, dropsAt, refusesAt, overflowsAt, busyAt}
-use Rattle.kernel.specs.Holds.{Named, named, settingsOf, Holds}
+use Rattle.kernel.specs.Holds.{settingsOf, Holds}
 use Rattle.kernel.specs.Judged.{Made}
 use Rattle.kernel.specs.declared.Kernel.{Kernel}
 use Rattle.kernel.specs.declared.Settings as Code

@@ -8,7 +8,7 @@ use mathlib.Core.List.{List, [], _∷_, _++_}
 use native.Mathlib.Omega.{arith}
 use lib.ListN.{length, take, length-append}
 use Rattle.lists.specs.Lists.{if_then_else_, one, occurs, those}
-use Rattle.lists.proofs.Laws.{either, same?, one-same, one-other, one-le, occurs-append, Stands, stands}
+use Rattle.lists.proofs.Laws.{same?, one-same, one-other, one-le, occurs-append, Stands, stands}
 
 module _ (b : ℕ) where
   -- i stands before the others, if it passes

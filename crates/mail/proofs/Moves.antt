@@ -21,9 +21,9 @@ use Rattle.rings.specs.Moves.{joinRear, leave, first}
 use Rattle.rings.proofs.Laws.{taken-from}
 use Rattle.rings.proofs.Looks.{first-some, fresh-rings}
 use Rattle.rings.proofs.Moves.{rear, left}
-use Rattle.chains.specs.Led.{after, Led}
+use Rattle.chains.specs.Led.{after}
 use Rattle.chains.specs.Links.{run, lows, linkUp, alone, puts}
-use Rattle.chains.proofs.Laws.{Once, linked-length, linked-other, linked-led, alone-length, alone-own, alone-other, own-after, own-length}
+use Rattle.chains.proofs.Laws.{linked-length, linked-other, linked-list, alone-length, alone-own, alone-other, own-after, own-length}
 use Rattle.plain.specs.Sizes.{processes, mailboxes, buffers, longest}
 use Rattle.plain.specs.State.{Message, State, Each, InHand, buffersOf, inHand, held}
 use Rattle.plain.specs.Pages as Pages
@@ -35,7 +35,7 @@ use Rattle.plain.specs.Sound.{Mail}
 use Rattle.plain_laws.proofs.Mail.{Fits, fits-free, not-queued, not-in-hand, held-queued, held-given, held-lost, held-let-go, each-rear}
 use Rattle.plain_laws.proofs.Relief.{relieved-by}
 use Rattle.mail.specs.Carries.{Numbers, firstOf, firsts, bufferIn, isFree, Has, NoneAt, Carries}
-use Rattle.mail.specs.Moves.{lowestFree, lengthAt, freshMail, filled, freed, given, emptied, relinked, queuedLast, handedOver, delivered, oldestDropped, relieved, fetched, letGo}
+use Rattle.mail.specs.Moves.{lowestFree, freshMail, filled, freed, given, emptied, relinked, queuedLast, handedOver, delivered, oldestDropped, relieved, fetched, letGo}
 use Rattle.mail.proofs.Held.{firsts-append, firsts-none, held-nowhere, head-there, first-in, firsts-held, none-queued, none-lost, none-given, none-let-go}
 use Rattle.mail.proofs.Looks.{lowest-lies, lowest-first, has-message, in-hand, has-run}
 use Rattle.mail.proofs.Parts.{put-kept, firsts-put, hands-put, no-more-put, full-put, free-put, Apart, set-off, each-kept, hand-kept}
@@ -105,17 +105,13 @@ module _ {k : Numbers} {box : ℕ → List Message} {hand : ℕ → Option Messa
     kept-hands : (p : ℕ) → InHand (Has lengths links) (hand p)
     kept-hands p = hand-kept (k .length) lengths (k .chain) links (x .lies) (set-off (k .length) b n (x .lies) there) (linked-other (k .chain) (x .lies)) (hand p) (off-hands p) (K .in-hands p)
 
-    linked : (l : List ℕ) → 1 ≤ length l → Once (length (k .chain)) l → Led (linkUp (k .chain) l) (getD l 0 0) l
-    linked [] z o = absurd (omega arith)
-    linked (y ∷ l) z o = linked-led (k .chain) y l o
-
     in-range : (p : ℕ) → 1 ≤ occurs p (x .lies) → p < length (k .chain)
     in-range p o = ⊎-elim (λ (h : buffers ≤ p). absurd (omega (arith, F .range p h))) (λ (h : p < buffers). omega (arith, K .chain-long)) (le? buffers p)
 
     pub own-has : Has lengths links x
     own-has = record {
       long = rw (begins .0, long) (getD-set-same (k .length) b n 0 (omega (arith, K .lengths-long, begins .1)));
-      led = linked (x .lies) some-lie (λ p. omega (arith, F .once p), in-range);
+      led = linked-list (k .chain) (x .lies) some-lie (λ p. omega (arith, F .once p), in-range);
       many = F .whole .many;
     }
 

@@ -3,8 +3,8 @@
 use Prim.Native.Nat.{ℕ, _≤_, _<_}
 use mathlib.Core.Path.{_≡_}
 use mathlib.Core.Logic.{_≢_}
-use mathlib.Core.List.{List, [], _∷_}
-use mathlib.Core.Option.{Option, none, some}
+use mathlib.Core.List.{List, []}
+use mathlib.Core.Option.{Option, none}
 use lib.ListN.{length}
 use Rattle.lists.specs.Lists.{occurs}
 use Rattle.plain.specs.Sizes.{processes, classes, mailboxes, buffers, semaphores, highestCount, atMailbox, atSemaphore, queues}

@@ -10,7 +10,7 @@ use native.Mathlib.Omega.{arith}
 use lib.ListN.{length, length-append}
 use borrow.Author.Tests.{eq-eqb, ne-eqb}
 use Rattle.lists.proofs.Laws.{same?, put-same, put-other, put-cases}
-use Rattle.lists.specs.Lists.{put, someone}
+use Rattle.lists.specs.Lists.{put}
 use Rattle.plain.specs.Sizes.{atMailbox, atSemaphore}
 use Rattle.plain.specs.State.{Message, State}
 use Rattle.plain.specs.Mailboxes.{overflows, relieved, buffersFor}

@@ -1,6 +1,5 @@
 -- The counts of the theorems at work: each example is computed, and each count in it is met.
 -- Assumes nothing.
-use Prim.Native.Nat.{ℕ}
 use mathlib.Core.Bool.{true}
 use mathlib.Core.Path.{_≡_, refl}
 use mathlib.Core.List.{List, [], _∷_}

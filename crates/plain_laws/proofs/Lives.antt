@@ -12,7 +12,7 @@ use Rattle.lists.proofs.Laws.{either, same?, le?, one-same}
 use Rattle.plain.specs.Sizes.{processes}
 use Rattle.plain.specs.State.{Procs, State, places, unused, freeProcess}
 use Rattle.plain.specs.Names.{rounds, name, bare, names}
-use Rattle.plain.specs.Calls.{Call, create, stop, Outcome, on, done, refused, stopped, perform, refusals, step, after}
+use Rattle.plain.specs.Calls.{Call, create, stop, Outcome, done, perform, refusals, step, after}
 use Rattle.plain.specs.Sound.{Used, Sound}
 use Rattle.plain.specs.Why as Why
 use Rattle.plain_laws.specs.History.{Passed, as-one, isDone, isRefusal, moments}

@@ -1,8 +1,8 @@
 -- Mailboxes that drop and mailboxes that refuse: which sends they take, and what they keep.
 -- Assumes nothing.
-use Prim.Native.Nat.{ℕ, suc, _+_, _≤_, _<_}
+use Prim.Native.Nat.{ℕ, _+_, _≤_, _<_}
 use mathlib.Core.Path.{_≡_, refl, sym, ap, ap₂, _∙_, subst}
-use mathlib.Core.Bool.{Bool, true, false, not, _&&_, true≢false}
+use mathlib.Core.Bool.{Bool, true, false, _&&_, true≢false}
 use mathlib.Core.Logic.{_≢_, _⊎_, inl, inr, ⊎-elim}
 use mathlib.Core.List.{List, [], _∷_, _++_, map, List·Memᴰ, List·Memᴰ·head, List·Memᴰ·tail}
 use native.Mathlib.Omega.{arith}
@@ -17,8 +17,8 @@ use Rattle.plain.specs.State.{Message, Settings, State, fill, held, freeBuffers
 use Rattle.plain.specs.Pages.{needed, tooFew}
 use Rattle.plain.specs.Mailboxes.{isFull, drops, refuses, overflows, relieved, buffersFor, noBuffers}
 use Rattle.plain.specs.Calls.{Call, send, Outcome, deliver, perform, on, refusals, judge, step}
-use Rattle.plain.specs.Sound.{Mail, Sound}
-use Rattle.plain_laws.specs.History.{Kind, falls, posts, fetches, sets, other, kind, Passed, First, as-one, isDone, isDropped, isRefusal, settingsBy, dropped}
+use Rattle.plain.specs.Sound.{Sound}
+use Rattle.plain_laws.specs.History.{Kind, falls, posts, fetches, sets, other, kind, as-one, isDone, isDropped, isRefusal, settingsBy, dropped}
 use Rattle.plain_laws.specs.Mailboxes.{Remains}
 use Rattle.plain_laws.proofs.Accepted.{accepts}
 use Rattle.plain_laws.proofs.Calls.{judged, accepted}

@@ -1,8 +1,8 @@
 -- Who joins the rear by a call: it goes to the rear of a class, and then settling says who runs.
 -- Assumes nothing.
 use Prim.Native.Nat.{ℕ, _-_, _≤_, _<_}
-use mathlib.Core.Path.{_≡_, refl, sym, _∙_, subst}
-use mathlib.Core.Bool.{Bool, true, false, not, _||_, true≢false}
+use mathlib.Core.Path.{_≡_, refl, _∙_, subst}
+use mathlib.Core.Bool.{Bool, true, false, not, _||_}
 use mathlib.Core.Logic.{_≢_, ⊎-elim}
 use mathlib.Core.List.{List, [], _∷_}
 use native.Mathlib.Omega.{arith}
@@ -15,10 +15,10 @@ use Rattle.plain.specs.Sizes.{processes, classes, atMailbox, atSemaphore}
 use Rattle.plain.specs.State.{Message, Procs, State, line, rank, fill, freeProcess}
 use Rattle.plain.specs.Mailboxes.{buffersFor}
 use Rattle.plain.specs.Runs.{makeReady, goTo}
-use Rattle.plain.specs.Calls.{Call, create, stop, end, yield, class, tick, mailbox, send, receive, read, release, signal, wait, Outcome, Refusal, perform, refusals, judge, step, yielded, ticked, regraded, deliver, wake}
+use Rattle.plain.specs.Calls.{Call, create, stop, end, yield, class, tick, mailbox, send, receive, read, release, signal, wait, perform, refusals, step, yielded, ticked, regraded, deliver, wake}
 use Rattle.plain.specs.Sound.{Sound}
 use Rattle.plain_laws.specs.Moves.{toRear, settle, Away}
-use Rattle.plain_laws.specs.History.{Passed, codes, isRefusal, joiners}
+use Rattle.plain_laws.specs.History.{Passed, isRefusal, joiners}
 use Rattle.plain_laws.proofs.Calls.{accepted, next-process, create-settles, wake-settles, goTo-settles, wait-settles}
 use Rattle.plain_laws.proofs.Refusals.{accepted-passed}
 use Rattle.plain_laws.proofs.Relief.{relieved-cases}

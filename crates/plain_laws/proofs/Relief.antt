@@ -1,15 +1,15 @@
 -- What a send finds once a full mailbox that drops has lost its oldest message, and which capacities and modes may be set.
 -- Assumes nothing.
 use Prim.Native.Nat.{ℕ, _+_, _≤_, _<_}
-use mathlib.Core.Path.{_≡_, refl, sym, ap, _∙_}
+use mathlib.Core.Path.{_≡_, refl, ap, _∙_}
 use mathlib.Core.Bool.{Bool, true, false, not, _&&_, _||_, true≢false}
 use mathlib.Core.Logic.{_≢_, _⊎_, ⊎-elim}
 use mathlib.Core.List.{List, [], _∷_}
 use native.Mathlib.Omega.{arith}
 use lib.ListN.{length, drop}
-use lib.Dec.{ltb, leb, eqb}
-use borrow.Author.Tests.{eqb-false, ltb-false, leb-true, not-true}
-use Rattle.lists.specs.Lists.{put, someone}
+use lib.Dec.{ltb, eqb}
+use borrow.Author.Tests.{eqb-false, ltb-false, leb-true}
+use Rattle.lists.specs.Lists.{someone}
 use Rattle.lists.proofs.Laws.{either, or-false, put-same, put-other, put-cases}
 use Rattle.plain.specs.Sizes.{mailboxes, atMailbox}
 use Rattle.plain.specs.State.{Message, Settings, State, usual, fill}

@@ -12,7 +12,7 @@ use lib.ListN.{length}
 use borrow.Author.Tests.{ltb-false, leb-false, eqb-false, not-false}
 use Rattle.lists.specs.Lists.{put, occurs}
 use Rattle.lists.proofs.Laws.{same?, put-same, put-other, put-cases, one-other, total-zero}
-use Rattle.plain.specs.Sizes.{processes, classes, mailboxes, buffers, semaphores, queues, longest, highestCount, atMailbox, atSemaphore}
+use Rattle.plain.specs.Sizes.{processes, classes, mailboxes, semaphores, queues, longest, highestCount, atMailbox, atSemaphore}
 use Rattle.plain.specs.State.{Message, Procs, Settings, State, start, usual, move, give, fill, score, line, rank, places, spots, held, freeProcess}
 use Rattle.plain.specs.Pages.{needed, lowestFree, tooFew}
 use Rattle.plain.specs.Mailboxes.{allot, noSize, refuses, overflows, relieved, buffersFor, noBuffers}
