@@ -274,7 +274,7 @@ void queue_is(uint32_t mailbox, const uint8_t *buffers, size_t messages) {
 }
 
 int row_is(size_t process, unsigned place, unsigned which, unsigned position, unsigned class, unsigned ticks,
-                  unsigned full, unsigned length) {
+           unsigned full, unsigned length) {
     const csengadrul_row *r = &rows[process];
     return r->place == place && r->which == which && r->position == position && r->class_ == class &&
            r->ticks == ticks && r->full == full && r->length == length;
