@@ -17,7 +17,7 @@ use Rattle.bits.specs.Word.{bit, word, bits, highest}
 
 -- ---- a word and its bits
 
-bit-le : (b : Bool) → bit b ≤ 1
+pub bit-le : (b : Bool) → bit b ≤ 1
 bit-le true = omega arith
 bit-le false = omega arith
 

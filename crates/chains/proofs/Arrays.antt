@@ -1,20 +1,15 @@
--- Reads and stores of an array of buffers, as reads and stores of its numbers; an array filled in from 0 on.
+-- Reads and stores past the end of an array of buffers; an array filled in from 0 on.
 -- Assumes nothing.
-use Prim.Native.Nat.{ℕ, zero, suc, _+_, _≤_, _<_}
-use mathlib.Core.Path.{_≡_, refl, sym, ap, _∙_, subst}
+use Prim.Native.Nat.{ℕ, _+_, _≤_, _<_}
+use mathlib.Core.Path.{_≡_, sym, _∙_, subst}
 use mathlib.Core.Logic.{_≢_, ⊎-elim}
-use mathlib.Core.List.{List, [], _∷_, map}
+use mathlib.Core.List.{List, map}
 use native.Mathlib.Omega.{arith}
 use lib.ListN.{length, getD, set, length-map, List·getD-eq-default}
 use lib.Seq.{set-out, getD-set-same, getD-set-other}
 use Rattle.lists.proofs.Laws.{same?}
 use Rattle.sizes.specs.declared.Bid.{Bid}
 use Rattle.chains.specs.Links.{num}
-
-pub stored : (t : List Bid) (i : ℕ) (b : Bid) → map num (set t i b) ≡ set (map num t) i (num b)
-stored [] i b = refl
-stored (x ∷ t) zero b = refl
-stored (x ∷ t) (suc i) b = ap (λ (l : List ℕ). num x ∷ l) (stored t i b)
 
 -- past the end nothing is read and nothing is stored
 module _ (t : List Bid) (i : ℕ) (past : length t ≤ i) where

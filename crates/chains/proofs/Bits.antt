@@ -22,10 +22,6 @@ use Rattle.chains.specs.Chained.{used}
 
 -- ---- bits of a word that was put, of the others, of none
 
-pub bit-le : (b : Bool) → bit b ≤ 1
-bit-le true = omega arith
-bit-le false = omega arith
-
 pub on-below : (n w i : ℕ) → w < 2 ^ n → bits w i ≡ true → i < n
 on-below n w i h e = ⊎-elim (λ u. absurd (true≢false (sym e ∙ bits-above n w i h u))) (λ u. u) (le? n i)
 

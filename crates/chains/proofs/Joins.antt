@@ -8,8 +8,8 @@ use native.Mathlib.Omega.{arith}
 use Rattle.lists.specs.Lists.{put, one, occurs, total, someone}
 use Rattle.lists.proofs.Laws.{same?, le?, put-same, put-other, one-same, one-other, occurs-append, total-zero, total-change}
 use Rattle.bits.specs.Word.{bit, width}
+use Rattle.bits.proofs.Words.{bit-le}
 use Rattle.chains.specs.Chained.{spread}
-use Rattle.chains.proofs.Bits.{bit-le}
 
 -- the sum of g along a list
 abbrev along : List ℕ → (ℕ → ℕ) → ℕ

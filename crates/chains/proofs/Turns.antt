@@ -19,10 +19,6 @@ use Rattle.chains.proofs.Lows.{lows-out, lows-first, lows-on}
 
 -- ---- whether one is still to be drawn
 
-pub none-left : (l : List ℕ) → someone l ≡ false → l ≡ []
-none-left [] e = refl
-none-left (x ∷ l) e = absurd (true≢false e)
-
 pub any-is : (s left b : ℕ) → left ≢ 0 → b ≡ lowest 0 width (bits s) → ltb b width ≡ someone (lows left (bits s))
 any-is s left b z e = ⊎-elim
     (λ (h : width ≤ b). le-ltb b width h ∙ sym (ap someone (lows-out s left (omega arith))))

@@ -39,7 +39,6 @@ use Rattle.kernel.specs.Full.{isFullAt, dropsAt, refusesAt, overflowsAt,
 use Rattle.kernel.specs.Holds.{settingsOf, Holds}
 use Rattle.kernel.specs.Judged.{Made}
 use Rattle.kernel.specs.declared.Kernel.{Kernel}
-use Rattle.kernel.specs.declared.Settings as Code
 use Rattle.kernel.proofs.Changes.{delivered-holds, someone-first}
 use Rattle.kernel.proofs.Judging.{stops}
 

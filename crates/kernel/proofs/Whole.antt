@@ -10,7 +10,7 @@ use native.Mathlib.Omega.{arith}
 use lib.Dec.{eqb}
 use lib.ListN.{getD}
 use borrow.Author.Tests.{eqb-true, eqb-false}
-use Rattle.lists.proofs.Laws.{either, same?, le?, one-other, total-zero}
+use Rattle.lists.proofs.Laws.{either, nobody, same?, le?, one-other, total-zero}
 use Rattle.lists.specs.Lists.{someone, occurs}
 use Rattle.bits.proofs.Words.{word-has}
 use Rattle.bits.specs.Word.{width, word, bits}
@@ -25,7 +25,6 @@ use Rattle.plain.specs.Start.{Set as Settled}
 use Rattle.plain.specs.State as State
 use Rattle.plain.specs.State.{Message, State, places}
 use Rattle.plain_laws.proofs.Places.{runs-once}
-use Rattle.plain_laws.proofs.Relief.{nobody}
 use Rattle.plain_laws.proofs.Seats.{member, nowhere}
 use Rattle.mail.specs.Carries as Carries
 use Rattle.waits.specs.Waits.{HandFits, WaitFits}

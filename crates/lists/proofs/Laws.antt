@@ -10,7 +10,7 @@ use lib.ListN.{length, getD, set, replicate, length-set, length-replicate}
 use lib.Seq.{getD-set-same, getD-set-other, ext-getD}
 use lib.Dec.{leb, eqb}
 use borrow.Author.Tests.{leb-true, leb-false, eqb-true, eqb-false, eq-eqb, ne-eqb}
-use Rattle.lists.specs.Lists.{if_then_else_, put, one, total, occurs, without, ahead, lowest, Entries}
+use Rattle.lists.specs.Lists.{if_then_else_, put, someone, one, total, occurs, without, ahead, lowest, Entries}
 
 -- a test has two outcomes, and each is known as an equation
 pub either : (t : Bool) → (t ≡ true) ⊎ (t ≡ false)
@@ -20,6 +20,11 @@ either false = inr refl
 pub or-false : (a b : Bool) → (a || b) ≡ false → (a ≡ false) × (b ≡ false)
 or-false true b e = absurd (true≢false e)
 or-false false b e = (refl, e)
+
+-- a list in which is nobody
+pub nobody : {A : Type 0} (l : List A) → someone l ≡ false → l ≡ []
+nobody [] e = refl
+nobody (x ∷ l) e = absurd (true≢false e)
 
 -- two numbers are the same or not
 pub same? : (a b : ℕ) → (a ≡ b) ⊎ (a ≢ b)

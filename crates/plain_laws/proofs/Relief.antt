@@ -10,7 +10,7 @@ use lib.ListN.{length, drop}
 use lib.Dec.{ltb, eqb}
 use borrow.Author.Tests.{eqb-false, ltb-false, leb-true}
 use Rattle.lists.specs.Lists.{someone}
-use Rattle.lists.proofs.Laws.{either, or-false, put-same, put-other, put-cases}
+use Rattle.lists.proofs.Laws.{either, or-false, nobody, put-same, put-other, put-cases}
 use Rattle.plain.specs.Sizes.{mailboxes, atMailbox}
 use Rattle.plain.specs.State.{Message, Settings, State, usual, fill}
 use Rattle.plain.specs.Mailboxes.{mostQueued, allotted, noSize, busy, isFull, drops, refuses, overflows, relieved, Habits}
@@ -80,10 +80,6 @@ size-passed c d e =
     let b = or-false (eqb c 0) (ltb mostQueued c) (a .0) in
     let z = eqb-false c 0 (b .0) in
     (omega arith, ltb-false mostQueued c (b .1), ltb-false 1 d (a .1))
-
-pub nobody : {A : Type 0} (l : List A) → someone l ≡ false → l ≡ []
-nobody [] e = refl
-nobody (x ∷ l) e = absurd (true≢false e)
 
 pub idle-box : (m : ℕ) (s : State) → busy m s ≡ false → (s .box m ≡ []) × (s .procs .queue (atMailbox m) ≡ [])
 unfolding busy

@@ -2,7 +2,7 @@
 -- Assumes nothing.
 use Prim.Native.Nat.{ℕ, suc, _+_, _-_, _≤_, _<_}
 use mathlib.Core.Path.{_≡_, refl, sym, ap}
-use mathlib.Core.Bool.{Bool, true, false, _&&_}
+use mathlib.Core.Bool.{Bool, true, false, and-false}
 use mathlib.Core.List.{List, [], _∷_, _++_}
 use mathlib.Core.Logic.{_≢_}
 use native.Mathlib.Omega.{arith}
@@ -47,10 +47,6 @@ same-long [] [] n = absurd (n refl)
 same-long [] (y ∷ b) n = refl
 same-long (x ∷ a) [] n = refl
 same-long (x ∷ a) (y ∷ b) n = rw (same-long a b (λ e. n (ap suc e))) (and-false (eqb x y))
-  where
-    and-false : (t : Bool) → (t && false) ≡ false
-    and-false true = refl
-    and-false false = refl
 
 -- ---- where a line is cut
 

@@ -3,9 +3,10 @@ use mathlib.Core.Path.{sym, ap, _∙_}
 use mathlib.Core.List.{List}
 use Prim.Native.Nat.{ℕ}
 use lib.ListN.{getD}
+use Rattle.lists.proofs.Laws.{nobody}
 use Rattle.bits.specs.Word.{bits}
 use Rattle.chains.specs.Links.{lows}
-use Rattle.chains.proofs.Turns.{any-first, none-left}
+use Rattle.chains.proofs.Turns.{any-first}
 use borrow.Author.Needs.{needs}
 use Rattle.chains.proofs.behind.Statement.{statement}
 use Rattle.chains.proofs.behind.Tie as tie
@@ -18,7 +19,7 @@ returns c =
 returns-2 : tie.Need-returns-2
 returns-2 c =
     let a = c .before .before .args in
-    sym (ap (λ (l : List ℕ). getD l 0 (a .b .0)) (none-left (lows (a .left) (bits (a .s))) (sym (c .before .any .ensures) ∙ c .if1 .left)))
+    sym (ap (λ (l : List ℕ). getD l 0 (a .b .0)) (nobody (lows (a .left) (bits (a .s))) (sym (c .before .any .ensures) ∙ c .if1 .left)))
 
 pub behind-spec : {M : Type 1} → statement M
 behind-spec = tie.close (tie.spec (λ c κs. search needs) (λ c κs. search needs) returns returns-2)

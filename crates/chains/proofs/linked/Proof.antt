@@ -3,7 +3,9 @@ use mathlib.Core.Path.{_≡_, sym}
 use native.Mathlib.Omega.{arith}
 use lib.ListN.{length}
 use Rattle.bits.specs.Word.{width}
-use Rattle.chains.proofs.Arrays.{stored, stored-past}
+use Rattle.rings.proofs.Units.{store}
+use Rattle.chains.specs.Links.{num}
+use Rattle.chains.proofs.Arrays.{stored-past}
 use borrow.Author.Needs.{needs}
 use Rattle.chains.proofs.linked.Statement.{statement}
 use Rattle.chains.proofs.linked.Tie as tie
@@ -11,7 +13,7 @@ use Rattle.chains.proofs.linked.Tie as tie
 returns : tie.Need-returns
 returns c =
     let a = c .before .before .before .args in
-    stored (a .t1) (a .a .0) (a .b)
+    store num (a .t1) (a .a .0) (a .b)
 
 returns-2 : tie.Need-returns-2
 returns-2 c =

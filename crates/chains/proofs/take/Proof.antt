@@ -5,11 +5,12 @@ use mathlib.Core.Bool.{false}
 use mathlib.Core.List.{List, map}
 use native.Mathlib.Omega.{arith}
 use lib.ListN.{length, length-set}
+use Rattle.lists.proofs.Laws.{nobody}
 use Rattle.bits.specs.Word.{word, bits, width}
+use Rattle.rings.proofs.Units.{store}
 use Rattle.chains.specs.Links.{num, lows, linkUp, removed}
 use Rattle.chains.proofs.Words.{word-fits, word-none}
-use Rattle.chains.proofs.Arrays.{stored}
-use Rattle.chains.proofs.Turns.{any-left, any-low, take-links, take-word, links-end, none-left}
+use Rattle.chains.proofs.Turns.{any-left, any-low, take-links, take-word, links-end}
 use borrow.Author.Needs.{needs}
 use Rattle.chains.proofs.take.Statement.{statement}
 use Rattle.chains.proofs.take.Tie as tie
@@ -43,14 +44,14 @@ loop-again c =
     let any = sym (c .before .before .before .before .before .before .any .ensures) ∙ c .before .before .before .before .before .if1 .taken in (
       length-set (l .links) (b .result .0) (c .behind .result) ∙ l .inv .0,
       word-fits _ (w .ensures),
-      take-links (l .s) (l .left) any (b .result .0) (w .result) (b .ensures) (w .ensures) _ _ _ (c .behind .ensures) (stored (l .links) (b .result .0) (c .behind .result)) ∙ l .inv .2,
+      take-links (l .s) (l .left) any (b .result .0) (w .result) (b .ensures) (w .ensures) _ _ _ (c .behind .ensures) (store num (l .links) (b .result .0) (c .behind .result)) ∙ l .inv .2,
       take-word (l .s) (l .left) any (b .result .0) (w .result) (b .ensures) (w .ensures) ∙ l .inv .3,
     )
 
 returns : tie.Need-returns Inv-loop μ-loop
 returns c =
     let l = c .before .before .loop in
-    let none = none-left (lows (l .left) (bits (l .s))) (sym (c .before .any .ensures) ∙ c .if1 .left) in
+    let none = nobody (lows (l .left) (bits (l .s))) (sym (c .before .any .ensures) ∙ c .if1 .left) in
     (sym (links-end _ none) ∙ l .inv .2, sym (ap (λ (r : List ℕ). word width (removed (bits (l .s)) r)) none ∙ word-none (l .s) (l .inv .1) false) ∙ l .inv .3)
 
 pub take-spec : {M : Type 1} → statement M

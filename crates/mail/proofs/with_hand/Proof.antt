@@ -3,13 +3,15 @@ use borrow.Author.Needs.{needs}
 use native.Mathlib.Omega.{arith}
 use mathlib.Core.Path.{_≡_, sym}
 use lib.ListN.{length}
+use Rattle.rings.proofs.Units.{store}
+use Rattle.boxes.specs.Box.{num}
 use Rattle.plain.specs.Sizes.{processes}
-use Rattle.chains.proofs.Arrays.{stored, stored-past}
+use Rattle.chains.proofs.Arrays.{stored-past}
 use Rattle.mail.proofs.with_hand.Statement.{statement}
 use Rattle.mail.proofs.with_hand.Tie as tie
 
 returns : tie.Need-returns
-returns c = let a = c .before .before .before .args in stored (a .t1) (a .p .0) (a .b)
+returns c = let a = c .before .before .before .args in store num (a .t1) (a .p .0) (a .b)
 
 returns-2 : tie.Need-returns-2
 returns-2 c =

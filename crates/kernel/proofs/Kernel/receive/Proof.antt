@@ -10,7 +10,7 @@ use Rattle.kernel.specs.Judged.{answered}
 use Rattle.mail.proofs.Looks.{empty-box, first-length}
 use Rattle.mail.specs.Moves.{hasMessage}
 use Rattle.plain.specs.Calls as Plain
-use Rattle.plain_laws.proofs.Relief.{nobody}
+use Rattle.lists.proofs.Laws.{nobody}
 use Rattle.plain.specs.Sizes.{mailboxes, atMailbox}
 use borrow.Author.Needs.{needs}
 use borrow.Author.Tests.{leb-false, eqb-false, not-true, not-false}
