@@ -4,6 +4,7 @@ pub mod Theorems
 pub mod Asked
 pub mod Names
 pub mod Pages
+pub mod Waiters
 pub mod Facts
 pub mod Judged
 pub mod Full

@@ -2,7 +2,7 @@
 -- Assumes nothing.
 use Prim.Native.Nat.{ℕ, zero, suc, _+_, _*_, _≤_, _<_}
 use mathlib.Core.Path.{_≡_, refl, sym, ap, _∙_, subst, fun-ext}
-use mathlib.Core.Bool.{Bool, true, false, _||_, true≢false}
+use mathlib.Core.Bool.{Bool, true, false, _&&_, _||_, true≢false}
 use mathlib.Core.Logic.{_≢_, _⊎_, inl, inr, ⊎-elim}
 use mathlib.Core.List.{List, [], _∷_, _++_}
 use native.Mathlib.Omega.{arith}
@@ -20,6 +20,10 @@ either false = inr refl
 pub or-false : (a b : Bool) → (a || b) ≡ false → (a ≡ false) × (b ≡ false)
 or-false true b e = absurd (true≢false e)
 or-false false b e = (refl, e)
+
+pub and-true : (a b : Bool) → (a && b) ≡ true → (a ≡ true) × (b ≡ true)
+and-true true b e = (refl, e)
+and-true false b e = absurd (true≢false (sym e))
 
 -- a list in which is nobody
 pub nobody : {A : Type 0} (l : List A) → someone l ≡ false → l ≡ []
@@ -225,6 +229,13 @@ without-split p (x ∷ a) b n m =
     let d : x ≢ p = λ e. omega (arith, subst (λ (z : ℕ). one x z ≡ 1) e (one-same x)) in
     rw (ne-eqb x p d) (ap (λ (r : List ℕ). x ∷ r) (without-split p a b (omega arith) m))
 
+pub without-append : (p : ℕ) (l r : List ℕ) → without p (l ++ r) ≡ without p l ++ without p r
+without-append p [] r = refl
+without-append p (x ∷ l) r = ⊎-elim
+    (λ (e : x ≡ p). rw (eq-eqb x p e) (without-append p l r))
+    (λ (d : x ≢ p). rw (ne-eqb x p d) (ap (λ (y : List ℕ). x ∷ y) (without-append p l r)))
+    (same? x p)
+
 -- one who stands in a list has a part before it and a part after it
 pub record Stands (p : ℕ) (l : List ℕ) : Type 0 where
   pub before : List ℕ
@@ -248,6 +259,24 @@ ahead-split p (x ∷ l) r n = ⊎-elim
     (λ (e : x ≡ p). absurd (omega (arith, n, subst (λ (y : ℕ). one y p ≡ 1) (sym e) (one-same p))))
     (λ (d : x ≢ p). rw (ne-eqb x p d) (ap suc (ahead-split p l r (omega (arith, n)))))
     (same? x p)
+
+-- nobody who comes behind is ahead of p, and nobody more once another has left
+pub ahead-rear : (p : ℕ) (l r : List ℕ) → 1 ≤ occurs p l → ahead p (l ++ r) ≡ ahead p l
+ahead-rear p [] r o = absurd (omega arith)
+ahead-rear p (x ∷ l) r o = ⊎-elim
+    (λ (e : x ≡ p). rw (eq-eqb x p e) refl)
+    (λ (d : x ≢ p). rw (ne-eqb x p d) (ap suc (ahead-rear p l r (omega (arith, one-other x p d)))))
+    (same? x p)
+
+pub ahead-without : (p y : ℕ) (l : List ℕ) → y ≢ p → ahead p (without y l) ≤ ahead p l
+ahead-without p y [] n = omega arith
+ahead-without p y (x ∷ l) n = ⊎-elim
+    (λ (e : x ≡ y). rw (eq-eqb x y e, ne-eqb x p (λ b. n (sym e ∙ b))) (omega (arith, ahead-without p y l n)))
+    (λ (d : x ≢ y). rw (ne-eqb x y d) (⊎-elim
+    (λ (e : x ≡ p). rw (eq-eqb x p e) (omega arith))
+    (λ (b : x ≢ p). rw (ne-eqb x p b) (omega (arith, ahead-without p y l n)))
+    (same? x p)))
+    (same? x y)
 
 -- p, who stands in queue q and nowhere else, is taken out of q, and no other queue changes
 pub taken-out : (p q : ℕ) (f : ℕ → List ℕ) (a b : List ℕ) → f q ≡ a ++ p ∷ b → occurs p a ≡ 0 → occurs p b ≡ 0 → ((i : ℕ) → i ≢ q → occurs p (f i) ≡ 0)

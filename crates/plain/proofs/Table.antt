@@ -185,6 +185,20 @@ pub oldest-stays : map (λ (c : Call). laid (nearlyFull ++ (c ∷ []))) (send 5 
 unfolding got
 oldest-stays = refl
 
+-- Request 10: of three who wait at semaphore 15, the first by coming goes first, whatever its class, then the next who was not stopped, and a signal counts once nobody waits; a message is for the first who waits, and who comes back waits behind the other.
+abbrev pub waiters : List (List Line)
+waiters =
+    (create 1 ⇒ (0, 257, 1) ∷ wait 15 ⇒ (32, 0, 0) ∷ create 3 ⇒ (0, 258, 2) ∷ wait 15 ⇒ (32, 0, 0) ∷ create 2 ⇒ (0, 259, 3) ∷ wait 15 ⇒ (32, 0, 0)
+    ∷ signal 15 ⇒ (0, 0, 1) ∷ stop 258 ⇒ (0, 0, 1) ∷ create 4 ⇒ (0, 514, 2) ∷ signal 15 ⇒ (0, 0, 2) ∷ signal 15 ⇒ (0, 0, 2) ∷ wait 15 ⇒ (0, 0, 2) ∷ end ⇒ (0, 0, 3) ∷ [])
+    ∷ (create 1 ⇒ (0, 257, 1) ∷ receive 5 ⇒ (32, 0, 0) ∷ create 2 ⇒ (0, 258, 2) ∷ receive 5 ⇒ (32, 0, 0)
+    ∷ send 5 (1 ∷ []) ⇒ (0, 0, 1) ∷ read 9 ⇒ (0, 1, 1) ∷ release ⇒ (0, 0, 1) ∷ receive 5 ⇒ (32, 0, 0)
+    ∷ send 5 abc ⇒ (0, 0, 2) ∷ read 9 ⇒ (0, 3, 2) ∷ send 5 [] ⇒ (0, 0, 2) ∷ end ⇒ (0, 0, 1) ∷ read 9 ⇒ (0, 0, 1) ∷ [])
+    ∷ []
+
+pub waiters-shown : map (got tuned) waiters ≡ map told waiters
+unfolding got
+waiters-shown = refl
+
 -- The listing while 1 runs with a message in hand and two ticks left, 2 and 3 are ready, 4 waits at semaphore 15 and 5 at mailbox 7: the rows of 0 to 6.
 abbrev pub listed : List Call
 listed =

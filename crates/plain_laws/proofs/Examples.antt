@@ -1,19 +1,21 @@
 -- The counts of the theorems at work: each example is computed, and each count in it is met.
 -- Assumes nothing.
+use Prim.Native.Nat.{ℕ}
 use mathlib.Core.Bool.{true}
 use mathlib.Core.Path.{_≡_, refl}
 use mathlib.Core.List.{List, [], _∷_}
-use Rattle.lists.specs.Lists.{total, lowest, those}
-use Rattle.plain.specs.Sizes.{bufferSize, longest}
+use Rattle.lists.specs.Lists.{total, ahead, lowest, those}
+use Rattle.plain.specs.Sizes.{bufferSize, longest, highestCount, atSemaphore}
 use Rattle.plain.specs.State.{State, start, spots, held, freeProcess, freeBuffers}
 use Rattle.plain.specs.Pages.{needed}
 use Rattle.plain.specs.Names.{raised, name, bare, names}
 use Rattle.plain.specs.Mailboxes.{mostQueued, noSize, busy, refuses, overflows, relieved}
 use Rattle.plain.specs.Runs.{choose, chooseBelow, join, standDown, makeReady, goTo, remove, halt}
-use Rattle.plain.specs.Calls.{Call, create, stop, end, tick, mailbox, send, receive, perform, refusals, step, after}
+use Rattle.plain.specs.Calls.{Call, create, stop, end, tick, mailbox, send, receive, signal, wait, perform, refusals, step, after}
 use Rattle.plain.specs.Start.{sliceOf}
 use Rattle.plain_laws.specs.Names.{bornIn, stoppedIn}
 use Rattle.plain_laws.specs.History.{isDone, sent, gone, dropped, countAhead, moments, ticksSeen, turnsBefore}
+use Rattle.plain_laws.specs.Waiters.{served}
 
 -- the state that calls lead to from fresh, with 3 ticks to a slice
 abbrev tuned : State
@@ -21,7 +23,7 @@ tuned = start (sliceOf 3)
 
 -- the state that calls lead to from there
 unfoldable reached : List Call → State
-unfolding after step refusals perform raised name bare names choose chooseBelow join standDown makeReady goTo remove halt spots total lowest held freeProcess freeBuffers those needed bufferSize longest mostQueued noSize busy refuses overflows relieved
+unfolding after step refusals perform raised name bare names choose chooseBelow join standDown makeReady goTo remove halt spots total lowest held freeProcess freeBuffers those needed bufferSize longest highestCount mostQueued noSize busy refuses overflows relieved
 reached cs = after tuned cs
 
 -- 2 is ready behind 1, who runs: one ahead. It sees three ticks before it runs, as many as the bound allows, and 1 has two more turns.
@@ -69,3 +71,18 @@ again = create 1 ∷ stop 257 ∷ create 1 ∷ end ∷ []
 births-counted : (bornIn 1 (moments tuned again) ≡ 2) × (stoppedIn 1 (moments tuned again) ≡ 2) × (isDone (step tuned (create 1)) ≡ true) × (step tuned (create 1) .answer .number ≡ 257)
 unfolding reached again moments bornIn stoppedIn
 births-counted = (refl, refl, refl, refl)
+
+-- 1, 2 and 3 wait at semaphore 0, so that 3 has two ahead: it goes on waiting after two signals, and not after three, nor after two where 2 was stopped. A signal on another semaphore, or one that is refused, counts for nothing.
+queued : List Call
+queued = create 1 ∷ wait 0 ∷ create 1 ∷ wait 0 ∷ create 1 ∷ wait 0 ∷ []
+
+abbrev waiting : List Call → ℕ × List ℕ
+waiting cs = (served (atSemaphore 0) (moments (reached queued) cs), after (reached queued) cs .procs .queue (atSemaphore 0))
+
+waiters-counted : (ahead 3 (reached queued .procs .queue (atSemaphore 0)) ≡ 2)
+    × (waiting (signal 0 ∷ signal 0 ∷ []) ≡ (2, 3 ∷ []))
+    × (waiting (signal 0 ∷ signal 0 ∷ signal 0 ∷ []) ≡ (3, []))
+    × (waiting (stop 258 ∷ signal 0 ∷ signal 0 ∷ []) ≡ (2, []))
+    × (waiting (signal 1 ∷ signal 16 ∷ []) ≡ (0, 1 ∷ 2 ∷ 3 ∷ []))
+unfolding reached queued moments served
+waiters-counted = (refl, refl, refl, refl, refl)

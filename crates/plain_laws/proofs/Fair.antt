@@ -9,13 +9,13 @@ use native.Mathlib.Omega.{arith}
 use lib.Dec.{eqb, leb}
 use borrow.Author.Tests.{eq-eqb, ne-eqb, eqb-true, lt-leb}
 use Rattle.lists.specs.Lists.{if_then_else_, put, occurs, without, total}
-use Rattle.lists.proofs.Laws.{either, or-false, same?, le?, put-same, put-other, put-cases, occurs-append, occurs-without-other, total-at, total-le, total-lt, total-times}
+use Rattle.lists.proofs.Laws.{either, or-false, and-true, same?, le?, put-same, put-other, put-cases, occurs-append, occurs-without-other, total-at, total-le, total-lt, total-times}
 use Rattle.plain.specs.Sizes.{processes}
 use Rattle.plain.specs.State.{Procs, State, level, places}
 use Rattle.plain.specs.Calls.{Call, step}
 use Rattle.plain.specs.Sound.{Seated, Sound}
 use Rattle.plain_laws.specs.Moves.{rid, leave, toRear, settle, Move, stay, idle, spend, again, rear, pause, halt, Others, none, also, Chain}
-use Rattle.plain_laws.specs.History.{kind, isTick, as-one, isRefusal, Ready, onDuty, leads, isAhead, countAhead, isOver, Moment, moments, ticksSeen, turnsBefore, joiners, joined, overtaken}
+use Rattle.plain_laws.specs.History.{kind, isTick, as-one, isRefusal, Ready, onDuty, leads, isAhead, countAhead, isOver, moment, moments, ticksSeen, turnsBefore, joiners, joined, overtaken}
 use Rattle.plain_laws.specs.Theorems.{Fair}
 use Rattle.plain_laws.proofs.Places.{runs-once, leave-gone, rear-other, rear-elsewhere, rear-there}
 use Rattle.plain_laws.proofs.Seats.{member, runner-range, queued-rests, move-seated, chain-seated}
@@ -29,15 +29,11 @@ or-elim : (a b : Bool) → (a || b) ≡ true → (a ≡ true) ⊎ (b ≡ true)
 or-elim true b e = inl refl
 or-elim false b e = inr e
 
-and-elim : (a b : Bool) → (a && b) ≡ true → (a ≡ true) × (b ≡ true)
-and-elim true b e = (refl, e)
-and-elim false b e = absurd (true≢false (sym e))
-
 -- who runs as one of p's class
 duty : (s : Procs) (p x : ℕ) → onDuty s p x ≡ true → (x ≡ s .running) × (x ≢ 0) × (level s x ≡ level s p)
 duty s p x e =
-    let a = and-elim (eqb x (s .running)) (not (eqb x 0) && eqb (level s x) (level s p)) e in
-    let b = and-elim (not (eqb x 0)) (eqb (level s x) (level s p)) (a .1) in
+    let a = and-true (eqb x (s .running)) (not (eqb x 0) && eqb (level s x) (level s p)) e in
+    let b = and-true (not (eqb x 0)) (eqb (level s x) (level s p)) (a .1) in
     (eqb-true x (s .running) (a .0), (λ z. true≢false (sym (b .0) ∙ ap not (eq-eqb x 0 z))), eqb-true (level s x) (level s p) (b .1))
 
 -- p fares: it is ready as before, nobody new is ahead of it, and of those who are nobody has more ticks; the runner, if ahead, has fewer after a tick
@@ -279,9 +275,6 @@ few-ticks p s cs k o = omega (arith, sees p s cs k o, sum-bound (s .settings .sl
 
 -- ---- the second half
 
-abbrev moment : State → Call → Moment
-moment s c = record { from = s .procs; call = c; answer = (step s c) .answer; to = (step s c) .next .procs }
-
 module _ (p : ℕ) (s : State) (c : Call) (k : Sound s) (o : Ready (s .procs) p) where
   abbrev r′ : Procs
   r′ = (step s c) .next .procs
@@ -291,7 +284,7 @@ module _ (p : ℕ) (s : State) (c : Call) (k : Sound s) (o : Ready (s .procs) p)
   stays-behind f x a = ⊎-elim (λ e. absurd (true≢false (sym (f .kept x e .0) ∙ a))) (λ e. e) (either (isAhead r′ p x))
 
   -- who joins the rear is not ahead of p
-  joins-behind : isOver r′ p ≡ false → (x : ℕ) → 1 ≤ occurs x (joined (moment s c)) → isAhead r′ p x ≡ false
+  joins-behind : isOver r′ p ≡ false → (x : ℕ) → 1 ≤ occurs x (joined (moment s c (step s c))) → isAhead r′ p x ≡ false
   joins-behind e x h = go (isRefusal ((step s c) .answer)) refl h
     where
       n : ℕ
@@ -337,14 +330,14 @@ rear-waits late p s [] k o a = refl
 rear-waits late p s (c ∷ cs) k o a =
     let s′ : State = (step s c) .next in
     let w : ℕ = s′ .procs .running in
-    let since : List ℕ = joined (moment s c) ++ late in
+    let since : List ℕ = joined (moment s c (step s c)) ++ late in
     ⊎-elim (λ (e : isOver (s′ .procs) p ≡ true). rw e refl)
     (λ (f : Fares (as-one (isTick (kind c))) p (s .procs) (s′ .procs)). ⊎-elim (λ (e : isOver (s′ .procs) p ≡ true). rw e refl)
     (λ (e : isOver (s′ .procs) p ≡ false).
     let none : (x : ℕ) → 1 ≤ occurs x since → isAhead (s′ .procs) p x ≡ false = λ x h. ⊎-elim
-    (λ (i : 1 ≤ occurs x (joined (moment s c))). joins-behind p s c k o e x i)
-    (λ (i : occurs x (joined (moment s c)) < 1). stays-behind p s c k o f x (a x (omega (arith, occurs-append x (joined (moment s c)) late))))
-    (le? 1 (occurs x (joined (moment s c)))) in
+    (λ (i : 1 ≤ occurs x (joined (moment s c (step s c)))). joins-behind p s c k o e x i)
+    (λ (i : occurs x (joined (moment s c (step s c))) < 1). stays-behind p s c k o f x (a x (omega (arith, occurs-append x (joined (moment s c (step s c))) late))))
+    (le? 1 (occurs x (joined (moment s c (step s c))))) in
     let off : (leb 1 (occurs w since) && onDuty (s′ .procs) p w) ≡ false = ⊎-elim
     (λ (i : 1 ≤ occurs w since). rw (off-duty (s′ .procs) p w (none w i)) (and-false (leb 1 (occurs w since))))
     (λ (i : occurs w since < 1). rw (lt-leb 1 (occurs w since) i) refl)

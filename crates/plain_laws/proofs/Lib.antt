@@ -16,6 +16,8 @@ pub mod Ahead
 pub mod Fair
 pub mod Lives
 pub mod Mailboxes
+pub mod Lines
+pub mod Waiters
 pub mod Why
 pub mod Theorems
 pub mod Examples

@@ -2,7 +2,7 @@
 -- Assumes nothing.
 use Prim.Native.Nat.{ℕ, _+_, _≤_, _<_}
 use mathlib.Core.Path.{_≡_, refl, sym, ap, ap₂, _∙_, subst}
-use mathlib.Core.Bool.{Bool, true, false, _&&_, and-false, true≢false}
+use mathlib.Core.Bool.{Bool, true, false, and-false, true≢false}
 use mathlib.Core.Logic.{_≢_, _⊎_, inl, inr, ⊎-elim}
 use mathlib.Core.List.{List, [], _∷_, _++_, map, List·Memᴰ, List·Memᴰ·head, List·Memᴰ·tail}
 use native.Mathlib.Omega.{arith}
@@ -10,7 +10,7 @@ use lib.ListN.{length, drop, length-append}
 use lib.Dec.{ltb, leb, eqb}
 use borrow.Author.Tests.{ne-eqb, le-ltb, lt-leb, leb-false}
 use Rattle.lists.specs.Lists.{put, occurs}
-use Rattle.lists.proofs.Laws.{either, le?, put-same, put-cases, occurs-append}
+use Rattle.lists.proofs.Laws.{either, and-true, le?, put-same, put-cases, occurs-append}
 use Rattle.lists.proofs.Those.{no-longer}
 use Rattle.plain.specs.Sizes.{mailboxes, buffers, longest, atMailbox}
 use Rattle.plain.specs.State.{Message, Settings, State, fill, held, freeBuffers}
@@ -36,15 +36,12 @@ unrefused m s e = rw e (and-false (isFull m s))
 
 overflow-drops : (m : ℕ) (s : State) → overflows m s ≡ true → drops m s ≡ true
 unfolding overflows
-overflow-drops m s = go (isFull m s) (drops m s)
-  where
-    go : (a b : Bool) → (a && b) ≡ true → b ≡ true
-    go true b e = e
-    go false b e = absurd (true≢false (sym e))
+overflow-drops m s e = and-true (isFull m s) (drops m s) e .1
 
-pub never-11 : (s : State) (m : ℕ) (b : List ℕ) → drops m s ≡ true → step s (send m b) .answer .code ≢ 11
+-- and 11 is given by one that does
+pub not-11 : (s : State) (m : ℕ) (b : List ℕ) → refuses m s ≡ false → step s (send m b) .answer .code ≢ 11
 unfolding step refusals perform
-never-11 s m b e = go (leb mailboxes m) (ltb longest (length b)) (refuses m s) (noBuffers m b s) (unrefused m s e)
+not-11 s m b e = go (leb mailboxes m) (ltb longest (length b)) (refuses m s) (noBuffers m b s) e
   where
     go : (a c r d : Bool) → r ≡ false → judge (on 3 a ∷ on 6 c ∷ on 11 r ∷ on 12 d ∷ []) s (perform s (send m b)) .answer .code ≢ 11
     go true c r d z = omega arith
@@ -52,6 +49,9 @@ never-11 s m b e = go (leb mailboxes m) (ltb longest (length b)) (refuses m s) (
     go false false true d z = absurd (true≢false z)
     go false false false true z = omega arith
     go false false false false z = omega arith
+
+pub never-11 : (s : State) (m : ℕ) (b : List ℕ) → drops m s ≡ true → step s (send m b) .answer .code ≢ 11
+never-11 s m b e = not-11 s m b (unrefused m s e)
 
 module _ (s : State) (k : Sound s) (m : ℕ) (o : overflows m s ≡ true) where
   -- there is an oldest message

@@ -1,23 +1,19 @@
 -- Names: which number is in a name, when a name is taken, and what a birth does to the counts.
 -- Assumes nothing.
 use Prim.Native.Nat.{ℕ, _+_, _%_, _≤_, _<_}
-use mathlib.Core.Path.{_≡_, refl, sym, _∙_}
-use mathlib.Core.Bool.{Bool, true, false, _&&_, true≢false}
+use mathlib.Core.Path.{_≡_, refl, _∙_}
+use mathlib.Core.Bool.{true}
 use mathlib.Core.Logic.{_≢_, ⊎-elim}
 use native.Mathlib.Omega.{arith}
 use lib.Dec.{ltb, eqb}
 use borrow.Author.Tests.{ltb-true, lt-ltb, eqb-true, eq-eqb, ne-eqb}
 use Rattle.lists.specs.Lists.{put}
-use Rattle.lists.proofs.Laws.{same?, put-other, put-cases}
+use Rattle.lists.proofs.Laws.{and-true, same?, put-other, put-cases}
 use Rattle.plain.specs.Sizes.{processes}
 use Rattle.plain.specs.State.{Procs, places}
 use Rattle.plain.specs.Names.{rounds, raised, name, bare, names, Births}
 use Rattle.plain_laws.specs.History.{as-one}
 use Rattle.plain_laws.specs.Names.{begins}
-
-and-true : (a b : Bool) → (a && b) ≡ true → (a ≡ true) × (b ≡ true)
-and-true true b e = (refl, e)
-and-true false b e = absurd (true≢false (sym e))
 
 module _ (births : ℕ → ℕ) where
   pub bare-name : (p : ℕ) → p < processes → bare (name births p) ≡ p

@@ -15,6 +15,7 @@ use Rattle.plain_laws.specs.History.{moments, overtaken, lastFirst}
 use Rattle.plain_laws.specs.Reasons.{OneReason}
 use Rattle.plain_laws.specs.Names.{Names}
 use Rattle.plain_laws.specs.Mailboxes.{Mailboxes}
+use Rattle.plain_laws.specs.Waiters.{NoBarging}
 use Rattle.plain_laws.specs.Theorems.{Fair, Soundness, FreshStarts, Refusals, Messages, Fairness}
 use Rattle.plain_laws.specs.Useless.{Kernel, replies, AnswersAsPlain, UselessShutOut}
 use Rattle.plain_laws.proofs.Sound.{usual-set, start-sound, step-sound, after-sound}
@@ -24,6 +25,7 @@ use Rattle.plain_laws.proofs.Messages.{counted-from-start}
 use Rattle.plain_laws.proofs.Fair.{fair}
 use Rattle.plain_laws.proofs.Lives as Lives
 use Rattle.plain_laws.proofs.Mailboxes as Boxes
+use Rattle.plain_laws.proofs.Waiters.{nobody-barges}
 use Rattle.plain_laws.proofs.Why as Why
 
 pub soundness : Soundness
@@ -151,3 +153,6 @@ mailboxes = record {
   keeps = Boxes.keeps;
   none-dropped = λ x m cs. Boxes.none-dropped (start x) m cs;
 }
+
+pub no-barging : NoBarging
+no-barging x cs later z = nobody-barges (after (start x) cs) later (after-sound (start x) cs (start-sound x z))

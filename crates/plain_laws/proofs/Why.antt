@@ -1,7 +1,7 @@
 -- Why a process waits: of each process of a sound state exactly one reason is true, and it is the one that is given.
 -- Assumes nothing.
 use Prim.Native.Nat.{ℕ, suc, _+_, _-_, _≤_, _<_}
-use mathlib.Core.Bool.{Bool, true, false, not, _&&_, true≢false}
+use mathlib.Core.Bool.{true, false, not, true≢false}
 use mathlib.Core.List.{_∷_}
 use mathlib.Core.Logic.{_≢_, inl, inr, ⊎-elim}
 use mathlib.Core.Path.{_≡_, refl, sym, ap, _∙_, subst}
@@ -10,7 +10,7 @@ use lib.Dec.{ltb, eqb}
 use lib.ListN.{length, length-append}
 use borrow.Author.Tests.{eqb-true, eqb-false, eq-eqb, ne-eqb, lt-ltb, le-ltb, ltb-true, not-true}
 use Rattle.lists.specs.Lists.{if_then_else_, occurs, ahead}
-use Rattle.lists.proofs.Laws.{either, same?, le?, one-same, one-other, occurs-append, lowest-passes, lowest-is, lowest-none, total-zero, at-most, stands, ahead-split}
+use Rattle.lists.proofs.Laws.{either, and-true, same?, le?, one-same, one-other, occurs-append, lowest-passes, lowest-is, lowest-none, total-zero, at-most, stands, ahead-split}
 use Rattle.plain.specs.Sizes.{processes, classes, mailboxes, semaphores, atMailbox, atSemaphore, queues}
 use Rattle.plain.specs.State.{Procs, State, level, spots, places}
 use Rattle.plain.specs.Sound.{In, Sound}
@@ -35,10 +35,6 @@ module _ (s : State) (p : ℕ) where
   queue-in d = ltb-true 0 _ (lowest-passes 0 queues (λ i. ltb 0 (occurs p (s .procs .queue i))) d .2)
 
 -- ---- whether the runner is of a class
-
-and-true : (a b : Bool) → (a && b) ≡ true → (a ≡ true) × (b ≡ true)
-and-true true b e = (refl, e)
-and-true false b e = absurd (true≢false (sym e))
 
 module _ (s : Procs) (c : ℕ) where
   is-of : RunnerOf s c → isRunnerOf s c ≡ true

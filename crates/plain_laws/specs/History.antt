@@ -1,4 +1,4 @@
--- What the theorems count and speak of, over any calls: ticks, turns, messages sent and gone, refusals passed.
+-- What the theorems count over any calls: ticks, turns, messages sent and gone, refusals passed.
 -- Assumes nothing.
 use Prim.Native.Nat.{ℕ, _+_, _-_, _≤_}
 use mathlib.Core.Path.{_≡_}
@@ -197,22 +197,25 @@ lastFirst m = record { from = m .from; call = m .call; answer = m .answer; to = 
 
 -- ---- counted over the moments of a history
 
--- the moments of the plain kernel
+-- those of the plain kernel
+abbrev pub moment : State → Call → Outcome → Moment
+moment s c o = record { from = s .procs; call = c; answer = o .answer; to = o .next .procs }
+
 unfoldable pub moments : State → List Call → List Moment
 moments s [] = []
-moments s (c ∷ cs) = let o : Outcome = step s c in record { from = s .procs; call = c; answer = o .answer; to = o .next .procs } ∷ moments (o .next) cs
+moments s (c ∷ cs) = let o : Outcome = step s c in moment s c o ∷ moments (o .next) cs
 
 -- how many ticks fall while p's class runs, until p runs or is stopped
 unfoldable pub ticksSeen : ℕ → List Moment → ℕ
 ticksSeen p [] = 0
 ticksSeen p (m ∷ ms) = if isOver (m .from) p then 0 else as-one (isTick (kind (m .call)) && onDuty (m .from) p (m .from .running)) + ticksSeen p ms
 
--- how often a call leaves x running as one of p's class, until p runs or is stopped
+-- how often a call leaves x running as one of p's class until then
 unfoldable pub turnsBefore : ℕ → ℕ → List Moment → ℕ
 turnsBefore x p [] = 0
 turnsBefore x p (m ∷ ms) = if isOver (m .to) p then 0 else as-one (onDuty (m .to) p x) + turnsBefore x p ms
 
--- how often one who has joined the rear meanwhile, `late` before these moments, runs as one of p's class, until p runs or is stopped
+-- how often one who has joined the rear meanwhile, `late` before these moments, runs as one of p's class until then
 unfoldable pub overtaken : List ℕ → ℕ → List Moment → ℕ
 overtaken late p [] = 0
 overtaken late p (m ∷ ms) =

@@ -5,3 +5,4 @@ pub mod Useless
 pub mod Reasons
 pub mod Names
 pub mod Mailboxes
+pub mod Waiters
