@@ -21,3 +21,4 @@ pub mod Waiters
 pub mod Why
 pub mod Theorems
 pub mod Examples
+pub mod Barging
