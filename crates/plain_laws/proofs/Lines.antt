@@ -30,6 +30,7 @@ use Rattle.plain_laws.proofs.Relief.{relieved-cases}
 use Rattle.plain_laws.proofs.Seats.{member, head-in, runner-away, runner-range, one-queue, queue-once, queued-rests, nowhere, rear-seated, gone-seated}
 use Rattle.plain_laws.proofs.Settle.{settle-kept}
 
+-- what becomes of queue q by the call of moment t: nothing, and then nobody was to be served; its first is served; w is stopped; w comes
 pub data Line (q : ℕ) (t : Moment) : Type 0 where
   stays : (serves q t ≡ true → t .from .queue q ≡ []) → t .to .queue q ≡ t .from .queue q → Line q t
   goes : (w : ℕ) (l : List ℕ) → serves q t ≡ true → t .from .queue q ≡ w ∷ l → t .to .queue q ≡ l → (t .to .running ≡ w) ⊎ Ready (t .to) w → Line q t

@@ -47,7 +47,7 @@ unfoldable pub turnedAway : ℕ → ℕ → List Moment → ℕ
 turnedAway code q [] = 0
 turnedAway code q (t ∷ ms) = as-one (someone (t .from .queue q) && (isFor q (t .call) && eqb (t .answer .code) code)) + turnedAway code q ms
 
--- p, who waited, "has been made ready again", by a call that is for it: it runs, or stands in the queue of its class; "or stopped". Until then it waits.
+-- p, who waited, "has been made ready again", by a call that is for it: it runs, or stands in the queue of its class; "or stopped". ("Or out by its limit" comes with request 8.) Until then it waits.
 pub data Over (q p : ℕ) : List Moment → Type 0 where
   readied : {t : Moment} {ms : List Moment} → serves q t ≡ true → (t .to .running ≡ p) ⊎ Ready (t .to) p → Over q p (t ∷ ms)
   stopped : {t : Moment} {ms : List Moment} → unused (t .to) p ≡ true → Over q p (t ∷ ms)
