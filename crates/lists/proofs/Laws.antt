@@ -21,14 +21,19 @@ pub or-false : (a b : Bool) → (a || b) ≡ false → (a ≡ false) × (b ≡ f
 or-false true b e = absurd (true≢false e)
 or-false false b e = (refl, e)
 
-pub and-true : (a b : Bool) → (a && b) ≡ true → (a ≡ true) × (b ≡ true)
-and-true true b e = (refl, e)
-and-true false b e = absurd (true≢false (sym e))
+pub both-true : (a b : Bool) → (a && b) ≡ true → (a ≡ true) × (b ≡ true)
+both-true true b e = (refl, e)
+both-true false b e = absurd (true≢false (sym e))
 
 -- a list in which is nobody
 pub nobody : {A : Type 0} (l : List A) → someone l ≡ false → l ≡ []
 nobody [] e = refl
 nobody (x ∷ l) e = absurd (true≢false e)
+
+-- and one that has a first
+pub first-of : {A : Type 0} (l : List A) → someone l ≡ true → (x : A) × (r : List A) × (l ≡ x ∷ r)
+first-of [] e = absurd (true≢false (sym e))
+first-of (x ∷ l) e = (x, l, refl)
 
 -- two numbers are the same or not
 pub same? : (a b : ℕ) → (a ≡ b) ⊎ (a ≢ b)

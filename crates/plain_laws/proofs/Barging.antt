@@ -24,8 +24,8 @@ abbrev standing : ℕ → ℕ → List ℕ → Procs
 standing i p l = record { running = p; queue = put (λ j. []) i l; class = λ x. 0; ticks = λ x. 5 }
 
 -- a call that is answered with this code, and who runs and who waits after it
-abbrev then : Call → ℕ → ℕ → ℕ → List ℕ → Moment
-then c code i p l = record { from = standing i 0 three; call = c; answer = record { code = code; number = 0; running = p }; to = standing i p l }
+abbrev answered : Call → ℕ → ℕ → ℕ → List ℕ → Moment
+answered c code i p l = record { from = standing i 0 three; call = c; answer = record { code = code; number = 0; running = p }; to = standing i p l }
 
 abbrev Kept : Moment → Type 0
 Kept t = Orderly q 13 (standing q 0 three) (t ∷ [])
@@ -37,11 +37,11 @@ not-yet (t ∷ ms) e (stopped u) = nil≢cons (sym e)
 not-yet (t ∷ ms) e (later o rest) = nil≢cons (sym e)
 
 -- who is woken goes to the rear of those who wait again
-woken-waits-again : Kept (then (signal 0) 0 q 0 (2 ∷ 3 ∷ 1 ∷ [])) → ⊥
+woken-waits-again : Kept (answered (signal 0) 0 q 0 (2 ∷ 3 ∷ 1 ∷ [])) → ⊥
 unfolding served spots total
 woken-waits-again k = go (k .in-time 1 (omega arith) (omega arith))
   where
-    go : Over q 1 (then (signal 0) 0 q 0 (2 ∷ 3 ∷ 1 ∷ []) ∷ []) → ⊥
+    go : Over q 1 (answered (signal 0) 0 q 0 (2 ∷ 3 ∷ 1 ∷ []) ∷ []) → ⊥
     go (readied v (inl e)) = omega arith
     go (readied v (inr o)) = omega arith
     go (stopped u) = true≢false (sym u)
@@ -51,23 +51,23 @@ other-first : {x y : ℕ} {l r : List ℕ} → x ≢ y → x ∷ l ≡ y ∷ r �
 other-first d e = d cc
 
 -- a signal raises the count while someone waits, or is for the last who came; it is refused, the count being full
-counted-past-a-waiter : Kept (then (signal 0) 0 q 0 three) → ⊥
+counted-past-a-waiter : Kept (answered (signal 0) 0 q 0 three) → ⊥
 unfolding spots total
 counted-past-a-waiter k = other-first (omega arith) (k .in-line .0 .1)
 
-last-goes-first : Kept (then (signal 0) 0 q 3 (1 ∷ 2 ∷ [])) → ⊥
+last-goes-first : Kept (answered (signal 0) 0 q 3 (1 ∷ 2 ∷ [])) → ⊥
 unfolding spots total
 last-goes-first k = other-first (omega arith) (k .in-line .0 .1)
 
-full-while-one-waits : Kept (then (signal 0) 13 q 0 three) → ⊥
+full-while-one-waits : Kept (answered (signal 0) 13 q 0 three) → ⊥
 unfolding turnedAway
 full-while-one-waits k = let e = k .never-full in omega arith
 
 -- who comes to wait stands before those who wait already
-waits-at-the-front : Kept (then (wait 0) 32 q 0 (4 ∷ three)) → ⊥
+waits-at-the-front : Kept (answered (wait 0) 32 q 0 (4 ∷ three)) → ⊥
 unfolding spots total
 waits-at-the-front k = other-first (omega arith) (k .in-line .0 .1)
 
 -- a message goes into another hand than that of the first who waits
-taken-past-a-waiter : (b : List ℕ) → InOrder 0 three (record { moment = then (send 0 b) 0 (atMailbox 0) 2 (1 ∷ 3 ∷ []); inHand = λ p c. p ≡ 2 } ∷ []) → ⊥
+taken-past-a-waiter : (b : List ℕ) → InOrder 0 three (record { moment = answered (send 0 b) 0 (atMailbox 0) 2 (1 ∷ 3 ∷ []); inHand = λ p c. p ≡ 2 } ∷ []) → ⊥
 taken-past-a-waiter b k = omega (arith, k .0 b refl refl)

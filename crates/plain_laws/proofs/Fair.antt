@@ -9,7 +9,7 @@ use native.Mathlib.Omega.{arith}
 use lib.Dec.{eqb, leb}
 use borrow.Author.Tests.{eq-eqb, ne-eqb, eqb-true, lt-leb}
 use Rattle.lists.specs.Lists.{if_then_else_, put, occurs, without, total}
-use Rattle.lists.proofs.Laws.{either, or-false, and-true, same?, le?, put-same, put-other, put-cases, occurs-append, occurs-without-other, total-at, total-le, total-lt, total-times}
+use Rattle.lists.proofs.Laws.{either, or-false, both-true, same?, le?, put-same, put-other, put-cases, occurs-append, occurs-without-other, total-at, total-le, total-lt, total-times}
 use Rattle.plain.specs.Sizes.{processes}
 use Rattle.plain.specs.State.{Procs, State, level, places}
 use Rattle.plain.specs.Calls.{Call, step}
@@ -32,8 +32,8 @@ or-elim false b e = inr e
 -- who runs as one of p's class
 duty : (s : Procs) (p x : ℕ) → onDuty s p x ≡ true → (x ≡ s .running) × (x ≢ 0) × (level s x ≡ level s p)
 duty s p x e =
-    let a = and-true (eqb x (s .running)) (not (eqb x 0) && eqb (level s x) (level s p)) e in
-    let b = and-true (not (eqb x 0)) (eqb (level s x) (level s p)) (a .1) in
+    let a = both-true (eqb x (s .running)) (not (eqb x 0) && eqb (level s x) (level s p)) e in
+    let b = both-true (not (eqb x 0)) (eqb (level s x) (level s p)) (a .1) in
     (eqb-true x (s .running) (a .0), (λ z. true≢false (sym (b .0) ∙ ap not (eq-eqb x 0 z))), eqb-true (level s x) (level s p) (b .1))
 
 -- p fares: it is ready as before, nobody new is ahead of it, and of those who are nobody has more ticks; the runner, if ahead, has fewer after a tick

@@ -10,7 +10,7 @@ use lib.ListN.{length, drop, length-append}
 use lib.Dec.{ltb, leb, eqb}
 use borrow.Author.Tests.{ne-eqb, le-ltb, lt-leb, leb-false}
 use Rattle.lists.specs.Lists.{put, occurs}
-use Rattle.lists.proofs.Laws.{either, and-true, le?, put-same, put-cases, occurs-append}
+use Rattle.lists.proofs.Laws.{either, both-true, le?, put-same, put-cases, occurs-append}
 use Rattle.lists.proofs.Those.{no-longer}
 use Rattle.plain.specs.Sizes.{mailboxes, buffers, longest, atMailbox}
 use Rattle.plain.specs.State.{Message, Settings, State, fill, held, freeBuffers}
@@ -36,7 +36,7 @@ unrefused m s e = rw e (and-false (isFull m s))
 
 overflow-drops : (m : ℕ) (s : State) → overflows m s ≡ true → drops m s ≡ true
 unfolding overflows
-overflow-drops m s e = and-true (isFull m s) (drops m s) e .1
+overflow-drops m s e = both-true (isFull m s) (drops m s) e .1
 
 -- and 11 is given by one that does
 pub not-11 : (s : State) (m : ℕ) (b : List ℕ) → refuses m s ≡ false → step s (send m b) .answer .code ≢ 11

@@ -8,7 +8,7 @@ use native.Mathlib.Omega.{arith}
 use lib.Dec.{ltb, eqb}
 use borrow.Author.Tests.{ltb-true, lt-ltb, eqb-true, eq-eqb, ne-eqb}
 use Rattle.lists.specs.Lists.{put}
-use Rattle.lists.proofs.Laws.{and-true, same?, put-other, put-cases}
+use Rattle.lists.proofs.Laws.{both-true, same?, put-other, put-cases}
 use Rattle.plain.specs.Sizes.{processes}
 use Rattle.plain.specs.State.{Procs, places}
 use Rattle.plain.specs.Names.{rounds, raised, name, bare, names, Births}
@@ -24,7 +24,7 @@ module _ (births : ℕ → ℕ) where
   pub named : (n : ℕ) → names births n ≡ true → (bare n < processes) × (n ≡ name births (bare n))
   unfolding names
   named n e =
-      let both = and-true (ltb (bare n) processes) (eqb n (name births (bare n))) e in
+      let both = both-true (ltb (bare n) processes) (eqb n (name births (bare n))) e in
       (ltb-true (bare n) processes (both .0), eqb-true n (name births (bare n)) (both .1))
 
   pub is-named : (n : ℕ) → bare n < processes → n ≡ name births (bare n) → names births n ≡ true

@@ -10,7 +10,7 @@ use lib.ListN.{length, drop}
 use lib.Dec.{ltb, eqb}
 use borrow.Author.Tests.{eqb-false, ltb-false, leb-true}
 use Rattle.lists.specs.Lists.{someone}
-use Rattle.lists.proofs.Laws.{either, or-false, and-true, nobody, put-same, put-other, put-cases}
+use Rattle.lists.proofs.Laws.{either, or-false, both-true, nobody, put-same, put-other, put-cases}
 use Rattle.plain.specs.Sizes.{mailboxes, atMailbox}
 use Rattle.plain.specs.State.{Message, Settings, State, usual, fill}
 use Rattle.plain.specs.Mailboxes.{mostQueued, allotted, noSize, busy, isFull, drops, refuses, overflows, relieved, Habits}
@@ -38,7 +38,7 @@ relieved-length m s = relieved-cases m s (λ t. length (t .box m) + as-one (over
 
 pub overflow-full : (m : ℕ) (s : State) → overflows m s ≡ true → s .settings .capacity m ≤ length (s .box m)
 unfolding overflows
-overflow-full m s e = leb-true (s .settings .capacity m) (length (s .box m)) (and-true (isFull m s) (drops m s) e .0)
+overflow-full m s e = leb-true (s .settings .capacity m) (length (s .box m)) (both-true (isFull m s) (drops m s) e .0)
 
 -- a mailbox that overflows has a first message if it takes one at least
 pub relieved-by : (m : ℕ) (s : State) (P : State → Type 0) → 1 ≤ s .settings .capacity m → (overflows m s ≡ false → P s)

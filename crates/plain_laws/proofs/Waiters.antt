@@ -10,7 +10,7 @@ use native.Mathlib.Omega.{arith}
 use lib.Dec.{eqb, ltb}
 use borrow.Author.Tests.{eq-eqb, ne-eqb, eqb-true, ltb-true, lt-leb}
 use Rattle.lists.specs.Lists.{someone, occurs, without, ahead}
-use Rattle.lists.proofs.Laws.{either, and-true, same?, put-same, one-same, one-other, occurs-append, occurs-without-other, without-append, ahead-rear, ahead-without}
+use Rattle.lists.proofs.Laws.{either, both-true, first-of, same?, put-same, one-same, one-other, occurs-append, occurs-without-other, without-append, ahead-rear, ahead-without}
 use Rattle.plain.specs.Sizes.{classes, mailboxes, semaphores, highestCount, atMailbox, atSemaphore}
 use Rattle.plain.specs.State.{Message, Procs, State, places, unused}
 use Rattle.plain.specs.Mailboxes.{refuses, relieved, buffersFor}
@@ -22,7 +22,7 @@ use Rattle.plain_laws.proofs.Calls.{accepted}
 use Rattle.plain_laws.proofs.Lines.{Line, stays, goes, loses, grows, lined}
 use Rattle.plain_laws.proofs.Mailboxes.{not-11}
 use Rattle.plain_laws.proofs.Refusals.{accepted-passed}
-use Rattle.plain_laws.proofs.Seats.{queued}
+use Rattle.plain_laws.proofs.Seats.{head-in, queued}
 use Rattle.plain_laws.proofs.Sound.{step-sound}
 
 -- ---- those of a list who are not stopped
@@ -142,29 +142,28 @@ what-for q yield e = absurd (true≢false (sym e))
 what-for q (class c) e = absurd (true≢false (sym e))
 what-for q tick e = absurd (true≢false (sym e))
 what-for q (mailbox m c d) e = absurd (true≢false (sym e))
-what-for q (send m b) e = let both = and-true (ltb m mailboxes) (eqb (atMailbox m) q) e in inl (m, b, refl, ltb-true m mailboxes (both .0), eqb-true (atMailbox m) q (both .1))
+what-for q (send m b) e = let both = both-true (ltb m mailboxes) (eqb (atMailbox m) q) e in inl (m, b, refl, ltb-true m mailboxes (both .0), eqb-true (atMailbox m) q (both .1))
 what-for q (receive m) e = absurd (true≢false (sym e))
 what-for q (read room) e = absurd (true≢false (sym e))
 what-for q release e = absurd (true≢false (sym e))
 what-for q (signal i) e = inr (i, refl, eqb-true (atSemaphore i) q e)
 what-for q (wait i) e = absurd (true≢false (sym e))
 
--- someone who waits
-first-of : (l : List ℕ) → someone l ≡ true → (w : ℕ) × (1 ≤ occurs w l)
-first-of [] e = absurd (true≢false (sym e))
-first-of (w ∷ l) e = (w, omega (arith, one-same w))
-
 module _ (s : State) (k : Sound s) where
+  -- where someone waits, there is one who does
+  waiter : (q : ℕ) → someone (s .procs .queue q) ≡ true → (w : ℕ) × In (s .procs) q w
+  waiter q e = let f = first-of (s .procs .queue q) e in (f .0, head-in (s .settings .slice) (s .procs) (k .seated) q (f .0) (f .1) (f .2))
+
   -- a semaphore at which someone waits counts 0
   signal-taken : (i : ℕ) → i < semaphores → someone (s .procs .queue (atSemaphore i)) ≡ true → step s (signal i) .answer .code ≢ 13
   unfolding step refusals perform highestCount
-  signal-taken i h e = let w = first-of (s .procs .queue (atSemaphore i)) e in rw (lt-leb semaphores i h, k .waits .counts i (w .0) h (w .1)) (omega arith)
+  signal-taken i h e = let w = waiter (atSemaphore i) e in rw (lt-leb semaphores i h, k .waits .counts i (w .0) h (w .1)) (omega arith)
 
   -- a mailbox at which someone waits holds nothing
   send-taken : (m : ℕ) (b : List ℕ) → m < mailboxes → someone (s .procs .queue (atMailbox m)) ≡ true → step s (send m b) .answer .code ≢ 11
   unfolding refuses
   send-taken m b h e =
-      let w = first-of (s .procs .queue (atMailbox m)) e in
+      let w = waiter (atMailbox m) e in
       not-11 s m b (rw (k .waits .boxes m (w .0) h (w .1), lt-leb (s .settings .capacity m) 0 (k .settings .habits .some m)) refl)
 
 -- no call that is for queue q is refused with this code while somebody waits there
@@ -178,8 +177,8 @@ never-full q code taken s (c ∷ cs) k =
     let waiting : Bool = someone (s .procs .queue q) in
     let off : (waiting && (isFor q c && eqb (step s c .answer .code) code)) ≡ false = ⊎-elim
     (λ (e : (waiting && (isFor q c && eqb (step s c .answer .code) code)) ≡ true).
-    let a = and-true waiting (isFor q c && eqb (step s c .answer .code) code) e in
-    let b = and-true (isFor q c) (eqb (step s c .answer .code) code) (a .1) in
+    let a = both-true waiting (isFor q c && eqb (step s c .answer .code) code) e in
+    let b = both-true (isFor q c) (eqb (step s c .answer .code) code) (a .1) in
     absurd (taken s c k (a .0) (b .0) (eqb-true (step s c .answer .code) code (b .1))))
     (λ e. e) (either (waiting && (isFor q c && eqb (step s c .answer .code) code))) in
     rw off (omega (arith, never-full q code taken (step s c .next) cs (step-sound s k c)))

@@ -10,7 +10,7 @@ use lib.Dec.{ltb, eqb}
 use lib.ListN.{length, length-append}
 use borrow.Author.Tests.{eqb-true, eqb-false, eq-eqb, ne-eqb, lt-ltb, le-ltb, ltb-true, not-true}
 use Rattle.lists.specs.Lists.{if_then_else_, occurs, ahead}
-use Rattle.lists.proofs.Laws.{either, and-true, same?, le?, one-same, one-other, occurs-append, lowest-passes, lowest-is, lowest-none, total-zero, at-most, stands, ahead-split}
+use Rattle.lists.proofs.Laws.{either, both-true, same?, le?, one-same, one-other, occurs-append, lowest-passes, lowest-is, lowest-none, total-zero, at-most, stands, ahead-split}
 use Rattle.plain.specs.Sizes.{processes, classes, mailboxes, semaphores, atMailbox, atSemaphore, queues}
 use Rattle.plain.specs.State.{Procs, State, level, spots, places}
 use Rattle.plain.specs.Sound.{In, Sound}
@@ -42,7 +42,7 @@ module _ (s : Procs) (c : ℕ) where
 
   runner-of : isRunnerOf s c ≡ true → RunnerOf s c
   runner-of t =
-      let a = and-true (not (eqb (s .running) 0)) (eqb (level s (s .running)) c) t in
+      let a = both-true (not (eqb (s .running) 0)) (eqb (level s (s .running)) c) t in
       (eqb-false (s .running) 0 (not-true (eqb (s .running) 0) (a .0)), eqb-true (level s (s .running)) c (a .1))
 
   not-of : isRunnerOf s c ≡ false → RunnerOf s c → ⊥

@@ -2,7 +2,7 @@
 -- Assumes nothing.
 use Prim.Native.Nat.{ℕ, _+_, _≤_, _<_}
 use mathlib.Core.Bool.{Bool, true, false, not, _&&_}
-use mathlib.Core.List.{List, [], _∷_, _++_}
+use mathlib.Core.List.{List, [], _∷_, _++_, map}
 use mathlib.Core.Logic.{_⊎_}
 use mathlib.Core.Path.{_≡_}
 use lib.Dec.{ltb, eqb}
@@ -113,8 +113,7 @@ InOrder m l (h ∷ hs) = Gets m l h × InOrder m (remaining (atMailbox m) l (h .
 -- ---- what waiters were promised
 
 abbrev pub momentsOf : List Handover → List Moment
-momentsOf [] = []
-momentsOf (h ∷ hs) = h .moment ∷ momentsOf hs
+momentsOf hs = map (λ (h : Handover). h .moment) hs
 
 -- The processes stand as in r, and `hs` is what follows.
 pub record NobodyBarges (r : Procs) (hs : List Handover) : Type 0 where

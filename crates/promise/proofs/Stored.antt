@@ -159,7 +159,7 @@ Tells s (Lent.room n) o = o .answer .code ≡ 0 → o .answer .number ≡ length
 abbrev Kept : List ℕ → State → Lent → Plain.Outcome → Type 0
 Kept store s l o = Tells s l o × (Stored store s → (leaves l store o s .0 ≡ o .message) × Stored (leaves l store o s .1) (o .next))
 
-in-hand : (store : List ℕ) (h : Option Message) → InHand (Has store) h → inStore store h ≡ Plain.bytesIn h
+pub in-hand : (store : List ℕ) (h : Option Message) → InHand (Has store) h → inStore store h ≡ Plain.bytesIn h
 in-hand store none k = refl
 in-hand store (some x) k = k
 

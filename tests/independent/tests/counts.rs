@@ -1,11 +1,12 @@
 //! The count of messages of document 01 with the third term of document 02: of the messages that a mailbox accepted, some are
 //! queued, some went into hands, and some were dropped.
 
+mod moments;
+
 use independent::answer::DONE;
 use independent::call::Call;
-use independent::grammar::parse;
 use independent::kernel::*;
-use independent::scripts::Script;
+use moments::{moments, seeds};
 
 /// Counted from the calls and their answers.
 #[derive(Clone, Copy, Debug, Default)]
@@ -32,21 +33,17 @@ impl Counts {
 #[test]
 fn messages_are_queued_in_hands_or_dropped() {
     let mut dropped = 0;
-    for seed in (0..48).filter(|seed| *seed != 5) {
-        let mut script = Script::new(seed, 500);
-        let mut kernel = Kernel::fresh();
+    for seed in seeds() {
         let mut counts = [Counts::default(); MAILBOXES];
-        while let Some(line) = script.next_line() {
-            let Some(call) = parse(&line) else { continue };
-            let before = kernel.clone();
-            let done = kernel.apply(&call).0.code == DONE;
-            match call {
-                Call::Send(number, _) if done => counts[number as usize].add_send(&before.mailboxes[number as usize]),
+        for moment in moments(seed) {
+            let done = moment.code == DONE;
+            match moment.call {
+                Call::Send(number, _) if done => counts[number as usize].add_send(&moment.before.mailboxes[number as usize]),
                 Call::Receive(number) if done => counts[number as usize].gone_into_hands += 1,
                 _ => (),
             }
-            for (mailbox, counts) in kernel.mailboxes.iter().zip(counts) {
-                assert_eq!(mailbox.messages.len(), counts.left(), "seed {seed}, {call:?}");
+            for (mailbox, counts) in moment.after.mailboxes.iter().zip(counts) {
+                assert_eq!(mailbox.messages.len(), counts.left(), "seed {seed}, {:?}", moment.call);
             }
         }
         dropped += counts.iter().map(|counts| counts.dropped).sum::<usize>();

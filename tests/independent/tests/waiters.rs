@@ -1,11 +1,12 @@
 //! Request 10 of document 02, of the kernel here: nobody barges in at a mailbox or a semaphore, whatever is called. What it
 //! claims is counted from the calls and their answers, and held against who stands where.
 
+mod moments;
+
 use independent::answer::{CALLER_WAITS, COUNT_AT_LIMIT, DONE, MAILBOX_FULL};
 use independent::call::Call;
-use independent::grammar::parse;
 use independent::kernel::*;
-use independent::scripts::Script;
+use moments::{moments, seeds, Moment};
 use std::collections::VecDeque;
 
 /// A place to wait at, with what is awaited there.
@@ -63,54 +64,58 @@ struct Ends {
     messages: usize,
 }
 
-/// What one call did, at one place.
+/// What a call did, at one place.
 struct Step<'a> {
     place: Place,
-    before: &'a Kernel,
-    call: &'a Call,
-    code: u32,
-    after: &'a Kernel,
+    moment: &'a Moment,
 }
 
 impl Step<'_> {
+    fn is_for_waiters(&self) -> bool {
+        self.place.is_served_by(&self.moment.call)
+    }
+
+    fn serves(&self) -> bool {
+        self.is_for_waiters() && self.moment.code == DONE
+    }
+
     fn check(&self, waits: &mut Vec<Wait>, ends: &mut Ends) {
-        let served = self.place.is_served_by(self.call) && self.code == DONE;
-        if self.place.is_served_by(self.call) && !waits.is_empty() {
-            assert!(![MAILBOX_FULL, COUNT_AT_LIMIT].contains(&self.code), "{:?} is full while somebody waits", self.place);
+        if self.is_for_waiters() && !waits.is_empty() {
+            assert!(![MAILBOX_FULL, COUNT_AT_LIMIT].contains(&self.moment.code), "{:?} is full while somebody waits", self.place);
         }
-        if served {
+        if self.serves() {
             self.check_message(waits, ends);
             waits.iter_mut().for_each(|wait| wait.accepted += 1);
         }
         waits.retain(|wait| self.still_waits(wait, ends));
-        if self.place.is_sought_by(self.call) && self.code == CALLER_WAITS {
-            waits.push(Wait { process: self.before.running, ahead: waits.len(), accepted: 0 });
+        if self.place.is_sought_by(&self.moment.call) && self.moment.code == CALLER_WAITS {
+            waits.push(Wait { process: self.moment.before.running, ahead: waits.len(), accepted: 0 });
         }
         let order: VecDeque<usize> = waits.iter().map(|wait| wait.process).collect();
-        assert_eq!(&order, self.place.waiters(self.after), "the order of waiters at {:?}", self.place);
+        assert_eq!(&order, self.place.waiters(&self.moment.after), "the order of waiters at {:?}", self.place);
     }
 
     /// The message is in the hand of the first who waits, whole.
     fn check_message(&self, waits: &[Wait], ends: &mut Ends) {
-        let (Some(first), Call::Send(_, bytes)) = (waits.first(), self.call) else { return };
-        let hand = self.after.processes[first.process].as_ref().and_then(|process| process.hand.as_ref());
+        let (Some(first), Call::Send(_, bytes)) = (waits.first(), &self.moment.call) else { return };
+        let hand = self.moment.after.processes[first.process].as_ref().and_then(|process| process.hand.as_ref());
         assert_eq!(hand.map(|message| &message.bytes), Some(bytes), "in the hand of {}", first.process);
         ends.messages += usize::from(!bytes.is_empty());
     }
 
     /// With n ahead it waits no longer than until the call number n + 1; it is made ready by such a call, or stopped.
     fn still_waits(&self, wait: &Wait, ends: &mut Ends) -> bool {
-        let process = wait.process;
-        if self.place.waiters(self.after).contains(&process) {
+        let (process, after) = (wait.process, &self.moment.after);
+        if self.place.waiters(after).contains(&process) {
             assert!(wait.accepted < wait.ahead + 1, "{process} waits longer than it was promised at {:?}", self.place);
             return true;
         }
-        match &self.after.processes[process] {
+        match &after.processes[process] {
             None => ends.stopped += usize::from(wait.ahead > 0),
             Some(block) => {
-                let runs = self.after.running == process;
-                assert!(runs || self.after.ready[block.class].contains(&process), "{process} is not ready again");
-                assert!(self.place.is_served_by(self.call) && self.code == DONE, "{process} is ready by {:?}", self.call);
+                let ready = after.running == process || after.ready[block.class].contains(&process);
+                assert!(ready, "{process} is not ready again");
+                assert!(self.serves(), "{process} is ready by {:?}", self.moment.call);
                 ends.served += usize::from(wait.ahead > 0);
                 ends.sooner_by_a_stop += usize::from(wait.accepted < wait.ahead + 1);
             }
@@ -122,16 +127,11 @@ impl Step<'_> {
 #[test]
 fn nobody_barges_in() {
     let mut ends = Ends::default();
-    for seed in (0..48).filter(|seed| *seed != 5) {
-        let mut script = Script::new(seed, 500);
-        let mut kernel = Kernel::fresh();
+    for seed in seeds() {
         let mut waits: Vec<(Place, Vec<Wait>)> = Place::all().map(|place| (place, Vec::new())).collect();
-        while let Some(line) = script.next_line() {
-            let Some(call) = parse(&line) else { continue };
-            let before = kernel.clone();
-            let code = kernel.apply(&call).0.code;
+        for moment in moments(seed) {
             for (place, waits) in &mut waits {
-                Step { place: *place, before: &before, call: &call, code, after: &kernel }.check(waits, &mut ends);
+                Step { place: *place, moment: &moment }.check(waits, &mut ends);
             }
         }
     }

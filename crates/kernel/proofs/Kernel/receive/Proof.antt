@@ -4,13 +4,13 @@ use Rattle.kernel.proofs.Changes.{moved-holds, mailed-holds, gone-kept,
 use Rattle.kernel.proofs.Judging.{refused-plainly, accepted-plainly, gives, runner-is}
 use Rattle.kernel.proofs.Kernel.receive.Statement.{statement}
 use Rattle.kernel.proofs.Kernel.receive.Tie as tie
-use Rattle.kernel.proofs.Reading.{first-there, empty-hand-is}
+use Rattle.kernel.proofs.Reading.{empty-hand-is}
 use Rattle.kernel.proofs.Verdicts.{judged-receive}
 use Rattle.kernel.specs.Judged.{answered}
 use Rattle.mail.proofs.Looks.{empty-box, first-length}
 use Rattle.mail.specs.Moves.{hasMessage}
 use Rattle.plain.specs.Calls as Plain
-use Rattle.lists.proofs.Laws.{nobody}
+use Rattle.lists.proofs.Laws.{nobody, first-of}
 use Rattle.plain.specs.Sizes.{mailboxes, atMailbox}
 use borrow.Author.Needs.{needs}
 use borrow.Author.Tests.{leb-false, eqb-false, not-true, not-false}
@@ -36,7 +36,7 @@ returns-3 : tie.Need-returns-3
 unfolding Plain.perform Plain.refusals
 returns-3 c = accepted-plainly (Plain.receive _) (c .before .before .before .before .before .before .if1 .left) (judged-receive (c .before .before .before .before .before .before .before .before .before .before .before .before .facts .ensures) (c .before .before .before .before .before .before .before .before .before .before .before .before .before .args .m) (c .before .before .before .before .before .before .before .before .before .has-message .ensures ∙ ap (hasMessage _) (c .before .before .before .before .before .before .before .before .before .before .before .before .facts .ensures .runner)) (c .before .before .before .before .before .before .before .before .on-receive .ensures)) (λ s H S x.
     let a = c .before .before .before .before .before .before .before .before .before .before .before .before .before .args in
-    let f = first-there (s .box (a .m)) (not-false _ (sym (empty-box (H .mail) (a .m)) ∙ (sym (c .before .before .before .before .before .is-empty-box .ensures) ∙ c .before .before .before .before .if2 .left))) in
+    let f = first-of (s .box (a .m)) (not-false _ (sym (empty-box (H .mail) (a .m)) ∙ (sym (c .before .before .before .before .before .is-empty-box .ensures) ∙ c .before .before .before .before .if2 .left))) in
     rw (f .2) (gives 0 (length (f .0 .bytes)) [] _ (c .answer2 .ensures ∙ ap (answered _ 0) (c .before .before .before .first-length .ensures ∙ first-length (H .mail) (a .m) (f .0) (f .1) (f .2)))
     (rw (c .before .with-mail .ensures) (mailed-holds H (rw (c .before .before .fetch .ensures, c .before .before .before .before .before .before .before .before .before .before .before .before .facts .ensures .runner, runner-is _ s H) (fetched-carried H S (a .m) (f .0) (f .1) (leb-false _ _ (x .1 .0)) (f .2) (empty-hand-is (Plain.hand s) (x .1 .1 .0))))))))
 
