@@ -1,4 +1,6 @@
 // The line that is written for an answer, without its newline, and the parts that other texts are made of. Assumes nothing.
+#![tactic(auto)]
+
 pub mod area;
 mod text;
 

@@ -6,7 +6,7 @@ ghost use Rattle.answers.specs.Promises.{text_room, so_far, before_pairs};
 
 use crate::TEXT_ROOM;
 
-#[derive(Drop)]
+#[derive(Clone, Copy)]
 pub(crate) struct Text {
     pub bytes: [u8; TEXT_ROOM],
     pub at: usize,

@@ -1,5 +1,7 @@
 // A word as one bit for each number from 0 to 31: put a bit on or off, test it, find the lowest and the highest that is on.
 // Every function answers for every word and every index; an index of 32 or more has no bit.
+#![tactic(auto)]
+
 ghost use Rattle.std.specs.Prelude.{◌≡◌, true, false};
 ghost use Rattle.lists.specs.Lists.{put, lowest};
 ghost use Rattle.bits.specs.Word.{width, word, bits, highest};

@@ -1,5 +1,7 @@
 // The calls as the board's firmware makes them: numbers and lent areas of bytes in, an answer out.
 // Each reads the image that lies in the state area, makes the kernel's call and writes the next image back.
+#![tactic(auto)]
+
 ghost use Rattle.plain.specs.Calls as Plain;
 ghost use Rattle.plain.specs.State.{usual};
 ghost use Rattle.reasons.specs.Reasons.{Explains};
@@ -16,7 +18,7 @@ const USUAL_SLICE: u32 = sizes::USUAL_SLICE as u32;
 
 // Why a process waits, in numbers beside the answer; where the question is refused they are zeros.
 #[repr(C)]
-#[derive(Drop)]
+#[derive(Clone, Copy)]
 pub struct Reasoned {
     pub code: u32,
     pub number: u32,

@@ -1,5 +1,7 @@
 // The mailboxes: rings of links in two tables. The tables may hold anything: where a link leads past the last node, nothing changes.
 // Each move has one return at its end: a second one would cost several copies of the tables.
+#![tactic(auto)]
+
 ghost use Rattle.std.specs.Prelude.{◌≡◌, List, map, ℕ};
 ghost use Rattle.rings.specs.Walk.{tables};
 ghost use Rattle.rings.specs.Moves.{MadeFresh, JoinedRear, HasLeft, IsFirst, SaysEmpty, SaysAtLeast};
@@ -14,7 +16,7 @@ const MAILBOXES: u32 = sizes::MAILBOXES as u32;
 const NODES: usize = sizes::BUFFERS + sizes::MAILBOXES;
 
 // The node after each node, and the node before it: a node is a buffer, or the head of mailbox m, at BUFFERS + m. A buffer in no mailbox is linked to itself.
-#[derive(Drop)]
+#[derive(Clone, Copy)]
 pub struct Boxes {
     pub next: [Bid; NODES],
     pub prev: [Bid; NODES],

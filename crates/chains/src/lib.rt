@@ -1,5 +1,7 @@
 // Links of buffers: for each buffer the one after it, and for the last of a message, and a free one, itself.
 // The table may hold anything. Every function answers for every number: past the last buffer there is no link and no bit.
+#![tactic(auto)]
+
 mod singles;
 mod walked;
 
@@ -18,7 +20,7 @@ use sizes::{BUFFER_SIZE, Bid, Bids};
 const BUFFERS: u8 = sizes::BUFFERS as u8;
 
 // The links, and the buffers that are then free.
-#[derive(Drop)]
+#[derive(Clone, Copy)]
 pub struct Links {
     pub chain: [Bid; sizes::BUFFERS],
     pub free: Bids,

@@ -14,7 +14,7 @@ use sizes::Bid;
 const ALL: u32 = 4294967295;
 
 // Whether the buffers of a message are as they should be, and which of all are then still to be reached.
-#[derive(Drop)]
+#[derive(Clone, Copy)]
 struct Reached {
     ok: bool,
     todo: u32,

@@ -1,5 +1,7 @@
 // The counts of the semaphores, as signals and waits change them.
 // Every function answers for every number: past the last semaphore nothing is counted and nothing changes.
+#![tactic(auto)]
+
 ghost use Rattle.std.specs.Prelude.{◌≡◌, get_or, set};
 ghost use Rattle.counts.specs.Counts.{signalled, claimed};
 

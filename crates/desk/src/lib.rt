@@ -1,5 +1,7 @@
 // The replay desk: one line of a script in, the line of its answer out.
 // The caller cuts the input into lines, carries the desk and the store along, and writes the newlines. Assumes nothing.
+#![tactic(auto)]
+
 ghost use Rattle.std.specs.Prelude.{List, ◌≡◌, ℕ, ◌+◌, ◌≤◌, length};
 ghost use Rattle.std.proofs.Math.Option.{none, some};
 ghost use Rattle.plain.specs.Calls as Plain;
@@ -22,7 +24,7 @@ const LARGEST_ROOM: usize = calls::LARGEST_ROOM as usize;
 pub const LONGEST_TEXT: usize = answers::TEXT_ROOM + 2 * LARGEST_ROOM;
 
 // The kernel, and whether the next line is the first, which alone can name the slice.
-#[derive(Drop)]
+#[derive(Clone, Copy)]
 pub struct Desk {
     pub state: Kernel,
     pub first: bool,
@@ -39,7 +41,7 @@ impl Desk {
 }
 
 // The desk after a line, and how many bytes of the lent area the answer takes.
-#[derive(Drop)]
+#[derive(Clone, Copy)]
 pub struct Turn {
     pub desk: Desk,
     pub length: usize,

@@ -1,5 +1,7 @@
 // The pure part of the replay program: bytes in any chunks in, the answers to their lines out.
 // The caller lends the store, the line buffer and an area for the answers, carries along what goes on from chunk to chunk, and moves the bytes. Assumes nothing.
+#![tactic(auto)]
+
 ghost use Rattle.std.specs.Prelude.{ℕ, ◌+◌, ◌≤◌, ◌<◌, min, ◌≡◌, List, ◌++◌, length};
 ghost use Rattle.script.specs.Grammar.{longest_line};
 ghost use Rattle.desk.specs.Line.{Line};
@@ -17,7 +19,7 @@ const NEWLINE: u8 = b'\n';
 const OVER_LONG: usize = LONGEST_LINE + 1;
 
 // What goes on from chunk to chunk beside the lent areas: the desk, and how many bytes the line buffer holds of a line that has not ended. Any number over the longest line says that this one is too long.
-#[derive(Drop)]
+#[derive(Clone, Copy)]
 pub struct Ongoing {
     pub desk: Desk,
     pub held: usize,
@@ -34,7 +36,7 @@ impl Ongoing {
 }
 
 // What goes on, how many bytes of the chunk are taken, and how many of the area are written.
-#[derive(Drop)]
+#[derive(Clone, Copy)]
 pub struct Fed {
     pub next: Ongoing,
     pub used: usize,

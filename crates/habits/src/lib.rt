@@ -1,5 +1,7 @@
 // Habits: how many messages each mailbox takes, and what it does when it is full.
 // Every function answers for every table and every number: past the last mailbox all is as at the fresh start, and nothing changes.
+#![tactic(auto)]
+
 ghost use Rattle.std.specs.Prelude.{◌≡◌, eqb, get_or, set};
 ghost use Rattle.plain.specs.Mailboxes.{Habits};
 ghost use Rattle.rings.specs.Decides.{Decides};

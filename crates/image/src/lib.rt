@@ -1,5 +1,7 @@
 // The image of a kernel: its struct as bytes at fixed offsets, in an area that is lent.
 // An area may have any length: one that is not as long as an image is not written, and zeros are read of it.
+#![tactic(auto)]
+
 ghost use Rattle.std.specs.Prelude.{◌≡◌};
 ghost use Rattle.image.specs.Image.{blank, Read, Written};
 

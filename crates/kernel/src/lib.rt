@@ -1,4 +1,6 @@
 // The kernel: its state by value, the decision whether a state is sound, and every call as a method that hands back the next state beside the answer.
+#![tactic(auto)]
+
 ghost use Rattle.std.specs.Prelude.{◌≡◌};
 ghost use Rattle.plain.specs.State.{start};
 ghost use Rattle.kernel.specs.Holds.{named, Holds};
@@ -18,14 +20,14 @@ mod setup;
 mod sound;
 
 // What is set: the ticks of a full slice, at the fresh start; how many messages each mailbox takes, and its mode, by a call too.
-#[derive(Drop)]
+#[derive(Clone, Copy)]
 pub struct Settings {
     pub slice: u8,
     pub capacity: [u8; sizes::MAILBOXES],
     pub mode: [u8; sizes::MAILBOXES],
 }
 
-#[derive(Drop)]
+#[derive(Clone, Copy)]
 pub struct Kernel {
     pub procs: Procs,
     pub mail: Mail,
@@ -35,7 +37,7 @@ pub struct Kernel {
 }
 
 #[repr(C)]
-#[derive(Drop)]
+#[derive(Clone, Copy)]
 pub struct Answer {
     pub code: u32,
     pub number: u32,
@@ -43,7 +45,7 @@ pub struct Answer {
 }
 
 // What a call hands back: the next state beside the answer.
-#[derive(Drop)]
+#[derive(Clone, Copy)]
 pub struct Done {
     pub state: Kernel,
     pub answer: Answer,

@@ -14,7 +14,7 @@ const MAILBOXES: u32 = sizes::MAILBOXES as u32;
 const FIRST_QUEUE: u32 = sizes::AT_MAILBOXES as u32;
 
 // What a mailbox does with one message more: it refuses it, it loses its oldest one for it, or neither, as it has room.
-#[derive(Drop)]
+#[derive(Clone, Copy)]
 pub(crate) struct Fullness {
     pub refuses: bool,
     pub overflows: bool,

@@ -1,4 +1,6 @@
 // The listing: one row per process, written into a table of rows that is lent.
+#![tactic(auto)]
+
 ghost use Rattle.kernel.specs.Judged.{Judged};
 ghost use Rattle.rows.specs.Row.{bare, Each};
 ghost use Rattle.listing.specs.Listed.{Lists};
@@ -12,7 +14,7 @@ use verdicts::Verdict;
 const PROCESSES: u32 = sizes::PROCESSES as u32;
 
 // What is listed of a state, by value: the answer, how many rows it allows to be written, and the rows.
-#[derive(Drop)]
+#[derive(Clone, Copy)]
 pub struct Sheet {
     pub answer: Answer,
     pub count: u32,

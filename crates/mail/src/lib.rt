@@ -1,6 +1,8 @@
 // What is held: the mailboxes' queues of messages, each process's hand, the length of each message, which buffers are free, and how those of a message are linked.
 // A message is known by the first of its buffers: that one is queued or in a hand, and has its length.
 // Every function answers for every number: past the last process there is no hand, past the last mailbox no queue, past the last buffer no message.
+#![tactic(auto)]
+
 ghost use Rattle.std.specs.Prelude.{◌≡◌, map, get_or, set};
 ghost use Rattle.boxes.specs.Box.{num};
 ghost use Rattle.mail.specs.Carries.{numbers};
@@ -16,7 +18,7 @@ const BUFFERS: u8 = sizes::BUFFERS as u8;
 // A bit for each buffer.
 const ALL: u32 = 4294967295;
 
-#[derive(Drop)]
+#[derive(Clone, Copy)]
 pub struct Mail {
     pub boxes: Boxes,
     pub hand: [Bid; sizes::PROCESSES],

@@ -1,5 +1,7 @@
 // Names: how often each number was born, and whether a name means the process that has its number now.
 // Every function answers for every table and every number: past the last process nobody was born.
+#![tactic(auto)]
+
 ghost use Rattle.std.specs.Prelude.{◌≡◌};
 ghost use Rattle.plain.specs.Names.{name, bare, names, Births};
 ghost use Rattle.rings.specs.Decides.{Decides};

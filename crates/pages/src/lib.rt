@@ -1,5 +1,7 @@
 // The bytes of a message in the store, over the buffers to which the links lead.
 // Any store, any room, any links and any length are taken: a piece for which there is no place is left out.
+#![tactic(auto)]
+
 ghost use Rattle.std.specs.Prelude.{◌≡◌, map, ◌+◌, ◌*◌, ◌≤◌, leb, length};
 ghost use Rattle.std.proofs.Math.Seq.{paste};
 ghost use Rattle.plain.specs.Sizes.{buffer_size};

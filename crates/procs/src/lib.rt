@@ -1,6 +1,8 @@
 // Who runs: the process queues, each process's class and ticks left, a bit for each class that has someone ready, and a bit for each number
 // that is unused.
 // Every function answers for every struct and every number: a number that names no process has no entry and joins no queue.
+#![tactic(auto)]
+
 ghost use Rattle.std.specs.Prelude.{◌≡◌, true, false, get_or, set};
 ghost use Rattle.queues.specs.Queue.{tables_of};
 ghost use Rattle.procs.specs.Stands.{numbers};
@@ -15,7 +17,7 @@ const CLASSES: u32 = sizes::CLASSES as u32;
 
 const ALL_BUT_0: u32 = 4294967294;
 
-#[derive(Drop)]
+#[derive(Clone, Copy)]
 pub struct Procs {
     pub running: Pid,
     pub class: [u8; sizes::PROCESSES],

@@ -1,5 +1,7 @@
 // The process queues: rings of links in two tables. The tables may hold anything: where a link leads past the last node, nothing changes.
 // Each move has one return at its end: a second one would cost several copies of the tables.
+#![tactic(auto)]
+
 ghost use Rattle.std.specs.Prelude.{◌≡◌, map};
 ghost use Rattle.rings.specs.Moves.{MadeFresh, JoinedRear, JoinedFront, HasLeft, IsFirst, SaysEmpty};
 ghost use Rattle.queues.specs.Queue.{processes, queues, num, tables_of};
@@ -15,7 +17,7 @@ const QUEUES: u32 = sizes::QUEUES as u32;
 pub(crate) const NODES: usize = sizes::PROCESSES + sizes::QUEUES;
 
 // The node after each node, and the node before it: a node is a process, or the head of queue q, at PROCESSES + q. A process in no queue is linked to itself.
-#[derive(Drop)]
+#[derive(Clone, Copy)]
 pub struct Queues {
     pub next: [Pid; NODES],
     pub prev: [Pid; NODES],

@@ -1,5 +1,7 @@
 // Why a process waits: the one reason that is true of it, by value, and its numbers for the world outside.
 // Any struct is answered for: one that is not sound with 14.
+#![tactic(auto)]
+
 ghost use Rattle.std.specs.Prelude.{◌≡◌, suc, ◌≤◌};
 ghost use Rattle.lists.specs.Lists.{if◌then◌else◌};
 ghost use Rattle.plain.specs.Sizes.{processes};
@@ -17,7 +19,7 @@ use rows::{AT_MAILBOX, AT_SEMAPHORE, READY};
 use sizes::Pid;
 use verdicts::Verdict;
 
-#[derive(Drop)]
+#[derive(Clone, Copy)]
 pub enum Reason {
     Unused,
     Running,
@@ -31,14 +33,14 @@ pub enum Reason {
 }
 
 // A reason beside the answer. Where the question is refused it is Unused, whose numbers are zeros.
-#[derive(Drop)]
+#[derive(Clone, Copy)]
 pub struct Explained {
     pub answer: Answer,
     pub reason: Reason,
 }
 
 // Which kind of reason, which mailbox, semaphore or process, and how many are ahead.
-#[derive(Drop)]
+#[derive(Clone, Copy)]
 pub struct Numbers {
     pub kind: u32,
     pub which: u32,

@@ -1,5 +1,7 @@
 // The replay desk: a script on standard input, one line written for each line read. What is done with the bytes is the crate feed's.
 // Here they are read, handed over, and the answers written. Assumes the contracts of the kit's read and write.
+#![tactic(auto)]
+
 ghost use Rattle.std.specs.Prelude.{◌≡◌, length, take};
 ghost use Rattle.plain.specs.Sizes.{store_size};
 ghost use Rattle.replay.specs.Replays.{out_size, Handed, Replays, WholeReplay};
@@ -33,7 +35,7 @@ fn chunk(
 }
 
 // How many bytes were read, none at the end of the input, and what goes on.
-#[derive(Drop)]
+#[derive(Clone, Copy)]
 struct Read {
     got: usize,
     next: Ongoing,

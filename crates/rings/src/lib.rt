@@ -1,18 +1,20 @@
 // Whether two tables of bytes hold linked queues, and where each member then stands: nodes 0 to `members` - 1 are members, each node
 // after these is the head of a queue. Nothing is assumed of the bytes or of the lengths.
+#![tactic(auto)]
+
 ghost use Rattle.std.specs.Prelude.{◌≡◌, ℕ, ◌+◌, ◌-◌, ◌≤◌, ◌<◌, length, get_or};
 ghost use Rattle.rings.specs.Decides.{Decides};
 ghost use Rattle.rings.specs.Walk.{Decision, Settled, Sized, StepOf, Swept, Walk, tables};
 
 // Whether the tables hold queues; and for each member 0, or the number of its queue plus 1.
-#[derive(Drop)]
+#[derive(Clone, Copy)]
 pub struct Places {
     pub ok: bool,
     pub at: [u8; 32],
 }
 
 // One step along a ring: back to its head, on to a member, or neither.
-#[derive(Drop)]
+#[derive(Clone, Copy)]
 enum Step {
     Closes,
     To(usize),

@@ -1,5 +1,7 @@
 // The rows of all processes in a listing, by value.
 // Any struct has rows, wherever its links lead.
+#![tactic(auto)]
+
 ghost use Rattle.std.specs.Prelude.{◌≡◌};
 ghost use Rattle.mail.specs.Carries as Carries;
 ghost use Rattle.mail.specs.Moves.{length_in_hand};
@@ -27,7 +29,7 @@ pub const AT_SEMAPHORE: u8 = 4;
 pub const STANDING_BY: u8 = 5;
 
 #[repr(C)]
-#[derive(Drop)]
+#[derive(Clone, Copy)]
 pub struct Row {
     pub place: u8,
     pub which: u8,
@@ -39,14 +41,14 @@ pub struct Row {
 }
 
 // The last two columns of a row.
-#[derive(Drop)]
+#[derive(Clone, Copy)]
 struct Held {
     full: u8,
     length: u16,
 }
 
 // A row for each process, row i for process i.
-#[derive(Drop)]
+#[derive(Clone, Copy)]
 pub struct Table {
     pub rows: [Row; sizes::PROCESSES],
 }

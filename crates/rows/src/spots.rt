@@ -31,7 +31,7 @@ const AT_MAILBOXES: u8 = sizes::AT_MAILBOXES as u8;
 const AT_SEMAPHORES: u8 = sizes::AT_SEMAPHORES as u8;
 
 // The first three columns of a row.
-#[derive(Drop)]
+#[derive(Clone, Copy)]
 pub struct Spot {
     pub place: u8,
     pub which: u8,

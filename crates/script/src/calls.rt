@@ -9,7 +9,7 @@ use crate::numbers::{Number, read_number};
 use crate::words::{first_space, is_word};
 
 // A call that is lent nothing, with its numbers.
-#[derive(Drop)]
+#[derive(Clone, Copy)]
 pub enum Quiet {
     Create(u32),
     Stop(u32),
@@ -25,7 +25,7 @@ pub enum Quiet {
 }
 
 // Which order a line is: none; a call that is lent nothing, one that carries so many bytes, which the last of the line spell, two digits a byte, or one that is lent a room; why a process waits; or a fresh start with so many ticks to a slice.
-#[derive(Drop)]
+#[derive(Clone, Copy)]
 pub enum Word {
     Bad,
     Call(Quiet),

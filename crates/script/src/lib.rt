@@ -1,4 +1,6 @@
 // One line of a replay script: which order it is, and the bytes that it carries. The caller cuts the input into lines. Assumes nothing.
+#![tactic(auto)]
+
 pub mod calls;
 pub mod hex;
 pub mod numbers;

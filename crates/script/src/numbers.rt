@@ -5,7 +5,7 @@ ghost use Rattle.script.specs.Promises.{number_of, next_digit};
 
 const HIGHEST_NUMBER: u32 = 65535;
 
-#[derive(Drop)]
+#[derive(Clone, Copy)]
 pub enum Number {
     Is(u32),
     Bad,

@@ -1,6 +1,8 @@
 // Whether a struct holds the sound process part of a state: its queues, who runs, each process's block, and the bits of the ready classes
 // and of the unused processes, where a full slice has `slice` ticks. Nothing is assumed of what stands in the fields, nor of `slice`. In `at`
 // a process has 0 if it stands in no queue, else the number of its queue plus 1.
+#![tactic(auto)]
+
 ghost use Rattle.std.specs.Prelude.{◌≡◌, map};
 ghost use Rattle.lists.specs.Lists.{put};
 ghost use Rattle.bits.specs.Word.{width, word, bits};

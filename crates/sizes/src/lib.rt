@@ -1,18 +1,19 @@
 // The sizes of document 01 as the code has them, each named once, and process and buffer numbers, and words of bits for them, as separate units. The definitions have their own sizes in crates/plain/specs/Sizes.antt, and the proofs hold the two together. Assumes nothing.
+#![tactic(auto)]
 
 // A process and a buffer: "a place for one never takes the other". Either may hold any byte.
-#[derive(Drop)]
+#[derive(Clone, Copy)]
 pub struct Pid(pub u8);
 
-#[derive(Drop)]
+#[derive(Clone, Copy)]
 pub struct Bid(pub u8);
 
 // A word with a bit for each process, bit p for process p.
-#[derive(Drop)]
+#[derive(Clone, Copy)]
 pub struct Pids(pub u32);
 
 // A word with a bit for each buffer, bit b for buffer b.
-#[derive(Drop)]
+#[derive(Clone, Copy)]
 pub struct Bids(pub u32);
 
 pub const PROCESSES: usize = 32;

@@ -1,5 +1,7 @@
 // The rows of a stored state as a page for people: a state area on standard input, the page written.
 // The page goes to standard output, a word on what is wrong with the input to standard error. Assumes nothing.
+#![tactic(auto)]
+
 mod showing;
 
 use libc::{STDERR_FILENO, STDIN_FILENO, STDOUT_FILENO};

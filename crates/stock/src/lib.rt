@@ -1,5 +1,7 @@
 // Whether the mail of a state is sound by itself: every buffer is free, or one of a message that is queued once or in one hand.
 // Nothing is assumed of what stands in the fields.
+#![tactic(auto)]
+
 ghost use Rattle.std.specs.Prelude.{◌≡◌, List, map, ℕ, length};
 ghost use Rattle.bits.specs.Word.{bits};
 ghost use Rattle.rings.specs.Walk.{tables};

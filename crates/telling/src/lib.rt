@@ -1,9 +1,11 @@
 // What the programs for people have in common: a text in a lent area, and whether it is what was asked for or a fault. Assumes nothing.
+#![tactic(auto)]
+
 ghost use Rattle.std.specs.Prelude.{length};
 ghost use Rattle.telling.specs.Promise.{Refused, no_state, not_sound, Gives};
 
 // Whether it is what was asked for, and how many bytes of the lent area the text takes.
-#[derive(Drop)]
+#[derive(Clone, Copy)]
 pub struct Told {
     pub good: bool,
     pub length: usize,

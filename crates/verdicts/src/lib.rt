@@ -1,4 +1,6 @@
 // The verdict on each call: which of its refusals comes first, from what the kernel reads off its state. Every function answers for all numbers.
+#![tactic(auto)]
+
 ghost use Rattle.std.specs.Prelude.{not, ◌||◌, [], ◌∷◌, ◌≡◌, eqb, ltb};
 ghost use Rattle.plain.specs.Calls.{on, no_class, no_mailbox, no_semaphore};
 ghost use Rattle.plain.specs.Listing.{few_rows};
@@ -24,7 +26,7 @@ const HIGHEST_COUNT: u32 = sizes::HIGHEST_COUNT as u32;
 const LONGEST_SLICE: u32 = sizes::LONGEST_SLICE as u32;
 
 // What judging a call finds: a refusal, or code 0.
-#[derive(Drop)]
+#[derive(Clone, Copy)]
 pub struct Verdict {
     pub code: u32,
     pub number: u32,
@@ -32,7 +34,7 @@ pub struct Verdict {
 
 // What the kernel reads off its state before it judges any call: whether it is sound, who runs, and how many ticks a full slice has. What
 // only some calls ask for they are given beside it.
-#[derive(Drop)]
+#[derive(Clone, Copy)]
 pub struct Facts {
     pub sound: bool,
     pub runner: Pid,

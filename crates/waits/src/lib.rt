@@ -1,4 +1,6 @@
 // Whether processes and mail fit each other: nothing lies where a process waits, and only those hold a message who may. Assumes nothing.
+#![tactic(auto)]
+
 ghost use Rattle.std.specs.Prelude.{true, map, get_or};
 ghost use Rattle.boxes.specs.Box.{num};
 ghost use Rattle.rings.specs.Decides.{Decides};

@@ -1,5 +1,7 @@
 // Why a process waits, for a stagehand: its name as the one argument, a state area on standard input, one line written.
 // A reason goes to standard output, a word on what is wrong with the question to standard error. Assumes nothing.
+#![tactic(auto)]
+
 mod explaining;
 
 use libc::{STDERR_FILENO, STDIN_FILENO, STDOUT_FILENO};

@@ -1,4 +1,6 @@
 // In words: a reason, at the desk and for a stagehand, and the rows of a state, as a page. Assumes nothing.
+#![tactic(auto)]
+
 mod page;
 mod phrase;
 mod row;

@@ -6,7 +6,7 @@ ghost use Rattle.wording.specs.Promises.{room, so_far, more};
 
 pub(crate) const ROOM: usize = 96;
 
-#[derive(Drop)]
+#[derive(Clone, Copy)]
 pub(crate) struct Phrase {
     pub bytes: [u8; ROOM],
     length: usize,
