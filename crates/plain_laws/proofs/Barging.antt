@@ -32,6 +32,7 @@ Kept t = Orderly q 13 (standing q 0 three) (t ∷ [])
 
 -- a wait is not over before anything has happened
 not_yet : {i p : ℕ} (ms : List Moment) → ms ≡ [] → Over i p ms → ⊥
+not_yet [] e o = elim o [ ]
 not_yet (t ∷ ms) e (readied v b) = nil≢cons (sym e)
 not_yet (t ∷ ms) e (stopped u) = nil≢cons (sym e)
 not_yet (t ∷ ms) e (later o rest) = nil≢cons (sym e)

@@ -1,0 +1,8 @@
+-- `verdicts::on_create` meets its contract. Assumes nothing.
+use Rattle.verdicts.proofs.on_create.Goals as goal
+use Rattle.verdicts.specs.Chain.{found}
+use mathlib.Core.Path.{refl}
+
+pub returns : goal.returns
+unfolding found
+returns c = rw (c.or-2.ensures, c.or.ensures, c.on_tick.ensures) refl

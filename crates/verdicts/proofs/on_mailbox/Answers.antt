@@ -1,0 +1,8 @@
+-- `verdicts::on_mailbox` meets its contract. Assumes nothing.
+use Rattle.verdicts.proofs.on_mailbox.Goals as goal
+use Rattle.verdicts.specs.Chain.{found}
+use mathlib.Core.Path.{refl}
+
+pub returns : goal.returns
+unfolding found
+returns c = rw (c.or-3.ensures, c.or-2.ensures, c.no_size.ensures, c.or.ensures, c.on_tick.ensures) refl
