@@ -1,0 +1,32 @@
+-- `image::put::bids` meets its contract. The invariant: the first i buffers are put. Assumes nothing.
+use Prim.Native.Nat.{◌+◌, ◌-◌, ◌<◌}
+use Rattle.image.proofs.Areas.{has_room, no_put, put_none, put_one, put_more, put_all}
+use Rattle.image.proofs.put.bids.Goals as goal
+use Rattle.image.specs.Image.{bid}
+use borrow.Author.Rules.{rules}
+use lib.ListN.{length}
+use mathlib.Core.Path.{◌≡◌, refl}
+use native.Mathlib.Omega.{arith}
+
+pub returns-then-not-has_room : goal.returns-then-not-has_room
+returns-then-not-has_room c = no_put c.has_room.ensures c.if-not-has_room.true-raw
+
+pub loop-i-init : goal.loop-i-init
+loop-i-init c = (search rules, has_room _ _ _ c.has_room.ensures c.if-not-has_room.false-raw, put_none)
+
+pub loop-i-preserved : goal.loop-i-preserved
+loop-i-preserved c =
+    let l = c.loop-i in
+    let x = c.args in
+    let h : l.i < length x.xs = search rules in
+    (search rules, l.invariant.1, put_more bid x.xs (record { 0 = 0 }) l.i h refl l.invariant.2 (put_one l.area (x.at + l.i) _))
+
+pub shape_of-area : goal.shape_of-area
+shape_of-area c = c.loop-i.invariant.2.long
+
+pub returns : goal.returns
+returns c =
+    let l = c.loop-i in
+    let x = c.args in
+    let h : length x.xs ≡ 32 = search rules in
+    put_all bid x.xs l.i (omega arith) (omega arith) l.invariant.2

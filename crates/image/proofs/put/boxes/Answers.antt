@@ -1,0 +1,6 @@
+-- `image::put::boxes` meets its contract. Assumes nothing.
+use Rattle.image.proofs.Areas.{puts}
+use Rattle.image.proofs.put.boxes.Goals as goal
+
+pub returns : goal.returns
+returns c = puts c.box_links.ensures c.box_links-2.ensures
