@@ -71,8 +71,8 @@ fn capped(held: usize) -> usize
 // Puts a piece behind what the line buffer holds and gives what it then holds. The bytes of a line that gets too long are dropped.
 fn append(line: &mut [u8], held: usize, piece: &[u8]) -> usize
     requires { (length line.old ≡ longest_line) × (held ≤ over_long) }
-    ensures upper_bound { result ≤ over_long }
-    ensures by_index { (l : List ℕ) → HoldsLine l line.old held → HoldsLine (l ++ piece.now) line.new result }
+    ensures bounded { result ≤ over_long }
+    ensures appended { (l : List ℕ) → HoldsLine l line.old held → HoldsLine (l ++ piece.now) line.new result }
 {
     let end = held + piece.len();
     if LONGEST_LINE < end {
@@ -89,8 +89,8 @@ fn append(line: &mut [u8], held: usize, piece: &[u8]) -> usize
 // The text of the answer to the line that the buffer holds, at the start of room.
 fn text(d: Desk, held: usize, store: &mut [u8], line: &[u8], room: &mut [u8]) -> Turn
     requires { length line.now ≡ longest_line }
-    ensures length_le_longest_text { result.length ≤ longest_text }
-    ensures by_index { (l : List ℕ) → HoldsLine l line.now held → Line store.old l room.old d store.new room.new result }
+    ensures short { result.length ≤ longest_text }
+    ensures answered { (l : List ℕ) → HoldsLine l line.now held → Line store.old l room.old d store.new room.new result }
 {
     if LONGEST_LINE < held {
         return desk::bad(d, room);
@@ -101,8 +101,8 @@ fn text(d: Desk, held: usize, store: &mut [u8], line: &[u8], room: &mut [u8]) ->
 // The line buffer holds a whole line: its answer and a newline go behind what is written.
 fn answer(t: Turn, held: usize, store: &mut [u8], line: &[u8], out: &mut [u8]) -> Turn
     requires { (length line.now ≡ longest_line) × (t.length + longest_text < length out.old) }
-    ensures length_in_bounds { result.length ≤ length out.old }
-    ensures by_index { (l : List ℕ) → HoldsLine l line.now held → AnsweredBehind l store.old out.old t store.new out.new result }
+    ensures within { result.length ≤ length out.old }
+    ensures answered { (l : List ℕ) → HoldsLine l line.now held → AnsweredBehind l store.old out.old t store.new out.new result }
 {
     let d = t.desk;
     let at = t.length;

@@ -45,7 +45,7 @@ pub fn put_reason_line(
 
 pub fn put_sentence(out: &mut [u8], process: u8, reason: Reason) -> usize
     ensures written { Written (sentence process (meant reason)) out.old out.new result }
-    ensures reason_len_bound { length (sentence process (meant reason)) ≤ room }
+    ensures short { length (sentence process (meant reason)) ≤ room }
 {
     let who = say_number(say(nothing(), b"Process "), process);
     phrase::put(out, sentence::say_about(who, reason))
@@ -54,7 +54,7 @@ pub fn put_sentence(out: &mut [u8], process: u8, reason: Reason) -> usize
 // The page of the rows of all processes, with the names that these birth counts give them.
 pub fn put_page(out: &mut [u8], births: [u8; PROCESSES], rows: [Row; PROCESSES]) -> usize
     ensures written { Written (page (name (count_in births)) (row_at rows)) out.old out.new result }
-    ensures rows_len_bound { length (page (name (count_in births)) (row_at rows)) ≤ page_room }
+    ensures short { length (page (name (count_in births)) (row_at rows)) ≤ page_room }
 {
     let mut text = [0; LONGEST_PAGE];
     let end = page::lay_page(&mut text, births, rows);

@@ -12,4 +12,4 @@ slice_bounds-put-end c = sym (length-take-le c.lay_page-end.result _ (omega arit
 pub returns : goal.returns
 returns c =
     let laid = c.lay_page-end.ensures in
-    (written_as laid.text c.put.ensures, laid.short)
+    record { written = written_as laid.text c.put.ensures; short = laid.short }

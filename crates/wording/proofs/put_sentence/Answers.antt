@@ -12,4 +12,7 @@ pub returns : goal.returns
 returns c =
     let whole : so_far c.say_about.result ≡ sentence c.args.process (meant c.args.reason) =
     rw (c.say_about.ensures.0, c.say_number-who.ensures, c.say.ensures, c.nothing.ensures) (sentence-whole c.args.process (meant c.args.reason) c.ranges.process.fits c.say_about.ensures.1) in
-    (rw whole at c.put.ensures, omega (arith, sentence_short c.args.process (meant c.args.reason) c.ranges.process.fits c.say_about.ensures.1))
+    record {
+      written = rw whole at c.put.ensures;
+      short = omega (arith, sentence_short c.args.process (meant c.args.reason) c.ranges.process.fits c.say_about.ensures.1);
+    }

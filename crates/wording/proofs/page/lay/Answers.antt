@@ -18,4 +18,4 @@ pub returns : goal.returns
 returns c =
     let size : length c.args.t.bytes ≡ room = search rules in
     let put = c.put in
-    adds_laid room (so_far c.args.t) c.args.out.now put.new.0 c.args.at (length c.args.out.now - c.args.at) put.result (shown_short c.args.t size) c.requires refl put.ensures
+    adds_laid room (so_far c.args.t) c.args.out.now put.new.out c.args.at (length c.args.out.now - c.args.at) put.result (shown_short c.args.t size) c.requires refl put.ensures

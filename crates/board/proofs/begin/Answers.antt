@@ -1,0 +1,13 @@
+-- `board::begin` meets its contract. Assumes nothing.
+use Rattle.board.proofs.Begins.{begins_elsewhere, begins-refused, begins-anew}
+use Rattle.board.proofs.begin.Goals as goal
+use mathlib.Core.Path.{refl}
+
+pub returns-then-state-ne-SIZE : goal.returns-then-state-ne-SIZE
+returns-then-state-ne-SIZE c = begins_elsewhere c.args.state.now c.if-state-ne-SIZE.true refl refl
+
+pub returns-then-told-ne0 : goal.returns-then-told-ne0
+returns-then-told-ne0 c = begins-refused _ _ c.fresh_start-done.result c.if-state-ne-SIZE.false c.fresh_start-done.ensures c.if-told-ne0.true refl refl
+
+pub returns : goal.returns
+returns c = begins-anew _ _ c.fresh_start-done.result c.if-state-ne-SIZE.false c.fresh_start-done.ensures c.if-told-ne0.false c.hand_back.ensures
