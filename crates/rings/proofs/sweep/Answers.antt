@@ -5,16 +5,11 @@ use Rattle.lists.specs.Lists.{put}
 use Rattle.rings.proofs.Walks.{walked_none, walked_on, walked_broken}
 use Rattle.rings.proofs.sweep.Goals as goal
 use borrow.Author.Tests.{not-true, not-false}
-use lib.ListN.{length}
 use mathlib.Core.List.{[]}
-use mathlib.Core.Path.{◌≡◌}
 use native.Mathlib.Omega.{arith}
 
 pub loop-q-init : goal.loop-q-init
 loop-q-init c = ((λ q. [], walked_none _ _), omega arith)
-
-pub walk-requires : goal.walk-requires
-walk-requires c = (c.requires, omega arith, c.loop-q.invariant.0.1.stand.long)
 
 pub returns-then-not-walk : goal.returns-then-not-walk
 returns-then-not-walk c = λ f R.
@@ -28,8 +23,3 @@ loop-q-preserved c =
     let l = c.loop-q in
     let r = rw (not-false w.result c.if-not-walk.false-raw) at w.ensures in
     ((put l.invariant.0.0 l.q r.0, walked_on _ _ l.q l.invariant.0.0 l.at l.invariant.0.1 r.0 _ r.1 r.2), omega arith)
-
-pub returns : goal.returns
-returns c =
-    let e : c.loop-q.q ≡ length c.args.next.now - c.args.members = omega arith in
-    rw (← e) c.loop-q.invariant.0

@@ -8,22 +8,10 @@ use lib.ListN.{length-set}
 use mathlib.Core.Bool.{true, false}
 use native.Mathlib.Omega.{arith}
 
-pub bounds-prev-head : goal.bounds-prev-head
-bounds-prev-head c = omega (arith, c.requires.0.even)
-
-pub overflow_cast-head : goal.overflow_cast-head
-overflow_cast-head c = omega (arith, c.requires.0.small)
-
 pub returns-then-alone : goal.returns-then-alone
 returns-then-alone c =
     let e = rw c.if-alone.true at c.alone.ensures in
     walk_closes _ _ _ _ _ _ (record { to = e.0; back = e.1 })
-
-pub loop-b-init : goal.loop-b-init
-loop-b-init c = (c.requires.2, omega arith, λ ok s w. w)
-
-pub advance-requires : goal.advance-requires
-advance-requires c = (omega arith, omega arith)
 
 pub returns-in-Closes : goal.returns-in-Closes
 returns-in-Closes c =
@@ -34,12 +22,6 @@ pub returns-in-Broken : goal.returns-in-Broken
 returns-in-Broken c =
     let l = c.loop-b in
     l.invariant.2 false l.at (walk_broken _ _ _ l.at l.a (rw c.in-Broken.is at c.advance.ensures))
-
-pub bounds-at-b : goal.bounds-at-b
-bounds-at-b c =
-    let goes : let x = c.args in Goes (tables x.next.now x.prev.now) x.members c.loop-b.at c.loop-b.a c.in-To.b = rw c.in-To.is at c.advance.ensures in
-    let low : c.in-To.b < 32 = omega (arith, goes.member, c.requires.0.few) in
-    low
 
 pub loop-b-smaller : goal.loop-b-smaller
 loop-b-smaller c =
