@@ -10,7 +10,7 @@ use lib.Dec.{leb}
 use lib.ListN.{length, get_or, set, take, drop, length-append}
 use lib.Seq.{drop-cons, drop-drop, set-append_seam, take-suc, take-append_seam, drop-append_seam, take-length, drop-length, length-take-le}
 use borrow.Author.Tests.{leb-true, le-leb, lt-leb}
-use Rattle.lists.specs.Lists.{if◌then◌else◌}
+use Rattle.std.specs.Prelude.{if◌then◌else◌}
 use Rattle.answers.specs.Answer.{hex_of, hex_pairs}
 use Rattle.answers.specs.Written.{laid, Written}
 

@@ -10,7 +10,7 @@ use lib.ListN.{length, set, take, drop, length-append, length-drop, length-set}
 use lib.Seq.{take_all, drop-cons, get_or-set_same, drop-set-lt}
 use lib.Dec.{ltb, eqb, eqb-suc-zero}
 use borrow.Author.Tests.{ltb-true, ltb-false, lt-ltb, le-ltb}
-use Rattle.lists.specs.Lists.{if◌then◌else◌}
+use Rattle.std.specs.Prelude.{if◌then◌else◌}
 use Rattle.plain.specs.Calls.{Answer}
 use Rattle.answers.specs.Answer.{digit, digits_of, decimal, line, read_line, hex_pairs}
 use Rattle.answers.specs.Promises.{text_room, so_far, before_pairs}

@@ -1,8 +1,7 @@
 -- "The replay desk": what is written for an answer, without the newline.
 -- Assumes nothing.
-use Rattle.std.specs.Prelude.{ℕ, zero, suc, ◌+◌, ◌-◌, ◌/◌, ◌%◌, List, [], ◌∷◌, ◌++◌, ltb}
+use Rattle.std.specs.Prelude.{ℕ, zero, suc, ◌+◌, ◌-◌, ◌/◌, ◌%◌, List, [], ◌∷◌, ◌++◌, ltb, if◌then◌else◌}
 use Prim.Native.Char.{code}
-use Rattle.lists.specs.Lists.{if◌then◌else◌}
 use Rattle.plain.specs.Calls.{Answer}
 use Rattle.answers.specs.Ascii.{ascii, space}
 

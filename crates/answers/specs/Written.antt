@@ -1,7 +1,6 @@
 -- Where a text goes: at the start of an area, and nothing of it where it does not fit.
 -- Assumes nothing.
-use Rattle.std.specs.Prelude.{ℕ, ◌≡◌, List, ◌++◌, length, drop, leb}
-use Rattle.lists.specs.Lists.{if◌then◌else◌}
+use Rattle.std.specs.Prelude.{ℕ, ◌≡◌, List, ◌++◌, length, drop, leb, if◌then◌else◌}
 
 -- l at the start of the area o, and the bytes behind it unchanged
 abbrev pub laid : List ℕ → List ℕ → List ℕ

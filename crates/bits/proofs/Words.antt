@@ -11,7 +11,8 @@ use lib.Bits.{bit_or, bit_and, or_step, or_zero_r, or_add_and, and_le_l, and_mas
 use lib.Count.{count_leading_zeros, leading_top, count_trailing_zeros, under}
 use lib.Dec.{eqb}
 use lib.Pow.{pow_mono, shl_exact, shr-shr}
-use Rattle.lists.specs.Lists.{if◌then◌else◌, put, lowest}
+use Rattle.std.specs.Prelude.{if◌then◌else◌}
+use Rattle.lists.specs.Lists.{put, lowest}
 use Rattle.lists.proofs.Laws.{either, same?, le?, put_same, put_other, lowest-same}
 use Rattle.bits.specs.Word.{bit, word, bits, highest}
 

@@ -14,7 +14,8 @@ use lib.Pow.{shr-shr, field, mod-mod-pow, shl_exact, pow_pos}
 use lib.ListN.{length}
 use lib.Dec.{eqb}
 use borrow.Author.Tests.{lt-ltb, le-ltb, ne_eqb}
-use Rattle.lists.specs.Lists.{if◌then◌else◌, put, those}
+use Rattle.std.specs.Prelude.{if◌then◌else◌}
+use Rattle.lists.specs.Lists.{put, those}
 use Rattle.lists.proofs.Laws.{le?, put_other}
 use Rattle.bits.specs.Word.{bit, word, bits, width}
 use Rattle.bits.proofs.Words.{word_below, word_same, word-bits, bits-word, bits_above}

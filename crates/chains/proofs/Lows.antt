@@ -8,7 +8,8 @@ use mathlib.Core.List.{List, [], ◌∷◌}
 use native.Mathlib.Omega.{arith}
 use lib.ListN.{get_or, take}
 use borrow.Author.Tests.{eq-eqb, ne_eqb}
-use Rattle.lists.specs.Lists.{if◌then◌else◌, put, lowest, those}
+use Rattle.std.specs.Prelude.{if◌then◌else◌}
+use Rattle.lists.specs.Lists.{put, lowest, those}
 use Rattle.lists.proofs.Laws.{either, same?, put_other, lowest-passes}
 use Rattle.lists.proofs.Those.{those-same}
 use Rattle.bits.specs.Word.{word, bits, width}

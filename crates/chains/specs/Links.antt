@@ -1,7 +1,7 @@
 -- What is read along the links of buffers, and what their table and the free buffers become as a message takes buffers and gives them back.
 -- Total: a number past the last buffer has no link and no bit. Assumes nothing.
-use Rattle.std.specs.Prelude.{ℕ, zero, suc, Bool, true, false, List, [], ◌∷◌, get_or, set, take, eqb, ltb}
-use Rattle.lists.specs.Lists.{if◌then◌else◌, occurs, those}
+use Rattle.std.specs.Prelude.{ℕ, zero, suc, Bool, true, false, List, [], ◌∷◌, get_or, set, take, eqb, ltb, if◌then◌else◌}
+use Rattle.lists.specs.Lists.{occurs, those}
 use Rattle.bits.specs.Word.{width}
 use Rattle.rings.specs.Moves as Rings
 use Rattle.plain.specs.Pages.{needed}

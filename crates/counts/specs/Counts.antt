@@ -1,7 +1,7 @@
 -- When an array holds the semaphores' counts, and what it becomes at a signal and at a wait that passes.
 -- Assumes nothing.
-use Rattle.std.specs.Prelude.{ℕ, ◌+◌, ◌-◌, Bool, ◌||◌, List, leb, get_or, set}
-use Rattle.lists.specs.Lists.{if◌then◌else◌, Entries}
+use Rattle.std.specs.Prelude.{ℕ, ◌+◌, ◌-◌, Bool, ◌||◌, List, leb, get_or, set, if◌then◌else◌}
+use Rattle.lists.specs.Lists.{Entries}
 use Rattle.plain.specs.Sizes.{semaphores, highest_count}
 
 abbrev pub Counted : List ℕ → (ℕ → ℕ) → Type 0

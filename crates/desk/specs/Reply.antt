@@ -1,8 +1,7 @@
 -- "The replay desk": what the plain kernel's desk writes for the lines of a script, and where it then stands.
 -- Assumes nothing.
-use Rattle.std.specs.Prelude.{ℕ, Bool, true, false, ◌&&◌, List, [], ◌∷◌, eqb}
+use Rattle.std.specs.Prelude.{ℕ, Bool, true, false, ◌&&◌, List, [], ◌∷◌, eqb, if◌then◌else◌}
 use Rattle.std.proofs.Math.Option.{Option, none, some}
-use Rattle.lists.specs.Lists.{if◌then◌else◌}
 use Rattle.plain.specs.Calls.{Call, Answer, Outcome, step}
 use Rattle.plain.specs.Names.{bare}
 use Rattle.plain.specs.Start.{fresh_start}

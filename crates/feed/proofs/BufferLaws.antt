@@ -10,7 +10,7 @@ use lib.Dec.{leb}
 use lib.ListN.{length, take, length-append}
 use lib.Seq.{paste, take-paste, take_all}
 use borrow.Author.Tests.{lt-ltb}
-use Rattle.lists.specs.Lists.{if◌then◌else◌}
+use Rattle.std.specs.Prelude.{if◌then◌else◌}
 use Rattle.script.specs.Grammar.{longest_line, order}
 use Rattle.answers.specs.Written.{Written}
 use Rattle.desk.specs.Line.{Turned, Line}

@@ -1,7 +1,6 @@
 -- How bytes are cut into lines. Before a chunk there may be pending bytes: what stands behind the last newline of all that came before.
 -- Assumes nothing.
-use Rattle.std.specs.Prelude.{ℕ, ◌<◌, List, [], ◌∷◌, ◌++◌, ◌≡◌, eqb, length, get_or}
-use Rattle.lists.specs.Lists.{if◌then◌else◌}
+use Rattle.std.specs.Prelude.{ℕ, ◌<◌, List, [], ◌∷◌, ◌++◌, ◌≡◌, eqb, length, get_or, if◌then◌else◌}
 
 abbrev pub newline : ℕ
 newline = 10

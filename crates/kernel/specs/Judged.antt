@@ -1,7 +1,6 @@
 -- Midway in a call: what is known once it has been judged, and what the state is made of once it has been done.
 -- Assumes nothing.
-use Rattle.std.specs.Prelude.{ℕ, List, ◌≡◌, eqb}
-use Rattle.lists.specs.Lists.{if◌then◌else◌}
+use Rattle.std.specs.Prelude.{ℕ, List, ◌≡◌, eqb, if◌then◌else◌}
 use Rattle.plain.specs.Calls.{Refusal}
 use Rattle.plain.specs.Sound.{Sound}
 use Rattle.plain.specs.State.{State}

@@ -1,7 +1,6 @@
 -- What is listed by value: the answer, how many rows may be written, and the rows.
 -- Assumes nothing.
-use Rattle.std.specs.Prelude.{ℕ, List, ◌≡◌}
-use Rattle.lists.specs.Lists.{if◌then◌else◌}
+use Rattle.std.specs.Prelude.{ℕ, List, ◌≡◌, if◌then◌else◌}
 use Rattle.plain.specs.Listing as Plain
 use Rattle.plain.specs.Sizes.{processes}
 use Rattle.plain.specs.State.{State}

@@ -10,7 +10,8 @@ use lib.ListN.{length, get_or, set, replicate, length-set, length-replicate}
 use lib.Seq.{get_or-set_same, get_or-set_other, ext_get_or}
 use lib.Dec.{leb, eqb}
 use borrow.Author.Tests.{leb-true, leb-false, eqb-true, eqb-false, eq-eqb, ne_eqb}
-use Rattle.lists.specs.Lists.{if◌then◌else◌, put, someone, one, total, occurs, without, ahead, lowest, Entries}
+use Rattle.std.specs.Prelude.{if◌then◌else◌}
+use Rattle.lists.specs.Lists.{put, someone, one, total, occurs, without, ahead, lowest, Entries}
 
 -- a test has two outcomes, and each is known as an equation
 pub either : (t : Bool) → (t ≡ true) ⊎ (t ≡ false)
@@ -50,7 +51,7 @@ le? a b = go (leb a b) refl
     go true e = inl (leb-true a b e)
     go false e = inr (leb-false a b e)
 
-module _ {ℓ} {A : Type ℓ} where
+module _ {A : Type 0} where
   pub put_same : (f : ℕ → A) (i : ℕ) (v : A) → put f i v i ≡ v
   put_same f i v = rw (eq-eqb i i refl)
 

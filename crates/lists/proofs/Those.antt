@@ -7,7 +7,8 @@ use mathlib.Core.Logic.{◌≢◌, ⊎_elim}
 use mathlib.Core.List.{List, [], ◌∷◌, ◌++◌}
 use native.Mathlib.Omega.{arith}
 use lib.ListN.{length, take, length-append}
-use Rattle.lists.specs.Lists.{if◌then◌else◌, one, occurs, those}
+use Rattle.std.specs.Prelude.{if◌then◌else◌}
+use Rattle.lists.specs.Lists.{one, occurs, those}
 use Rattle.lists.proofs.Laws.{same?, one_same, one_other, one-le, occurs-append, Stands, stands}
 
 module _ (b : ℕ) where

@@ -9,7 +9,8 @@ use mathlib.Core.Option.{Option, none, some}
 use native.Mathlib.Omega.{arith}
 use lib.ListN.{length, get_or, length-map}
 use lib.Dec.{ltb, leb}
-use Rattle.lists.specs.Lists.{if◌then◌else◌, someone, lowest}
+use Rattle.std.specs.Prelude.{if◌then◌else◌}
+use Rattle.lists.specs.Lists.{someone, lowest}
 use Rattle.lists.proofs.Laws.{le?}
 use Rattle.lists.proofs.Those.{those-same}
 use Rattle.bits.specs.Word.{width, bits}

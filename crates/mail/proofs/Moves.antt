@@ -11,7 +11,8 @@ use lib.ListN.{length, get_or, set, length-set}
 use lib.Seq.{get_or-set_same, get_or-set_other}
 use lib.Dec.{eqb}
 use borrow.Author.Tests.{eq-eqb, ne_eqb, lt-ltb, le-ltb}
-use Rattle.lists.specs.Lists.{if◌then◌else◌, put, occurs}
+use Rattle.std.specs.Prelude.{if◌then◌else◌}
+use Rattle.lists.specs.Lists.{put, occurs}
 use Rattle.lists.proofs.Laws as Laws
 use Rattle.lists.proofs.Laws.{same?, le?, put_cases}
 use Rattle.bits.specs.Word.{width, word, bits}

@@ -10,7 +10,8 @@ use native.Mathlib.Omega.{arith}
 use lib.ListN.{length, get_or, set}
 use lib.Seq.{get_or-set_same, get_or-set_other}
 use lib.Dec.{eqb}
-use Rattle.lists.specs.Lists.{if◌then◌else◌, put, occurs}
+use Rattle.std.specs.Prelude.{if◌then◌else◌}
+use Rattle.lists.specs.Lists.{put, occurs}
 use Rattle.lists.proofs.Laws.{le?, put_other, put_cases, occurs-append}
 use Rattle.bits.specs.Word.{width, word, bits}
 use Rattle.bits.proofs.Words.{word_same, word_put}

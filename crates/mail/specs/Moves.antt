@@ -1,7 +1,7 @@
 -- What the struct becomes as messages are delivered, dropped, fetched and let go, and what is read off it, in its numbers.
 -- Total: a mailbox, process or buffer number past the last leaves what it would change as it is. Assumes nothing.
-use Rattle.std.specs.Prelude.{ℕ, Bool, true, false, List, length, get_or, set, replicate, ltb}
-use Rattle.lists.specs.Lists.{if◌then◌else◌, put, lowest, those}
+use Rattle.std.specs.Prelude.{ℕ, Bool, true, false, List, length, get_or, set, replicate, ltb, if◌then◌else◌}
+use Rattle.lists.specs.Lists.{put, lowest, those}
 use Rattle.bits.specs.Word.{width, word, bits}
 use Rattle.rings.specs.Ring.{Tables}
 use Rattle.rings.specs.Moves.{fresh, join_rear, leave, first, is_empty, holds_at_least}

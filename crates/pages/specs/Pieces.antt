@@ -1,8 +1,7 @@
 -- What is written over the buffers of a list, and what is read from them, a buffer's part at a time, for any store, room and list.
 -- Assumes nothing.
-use Rattle.std.specs.Prelude.{ℕ, ◌+◌, ◌-◌, ◌*◌, min, List, [], ◌∷◌, leb, length, take, drop}
+use Rattle.std.specs.Prelude.{ℕ, ◌+◌, ◌-◌, ◌*◌, min, List, [], ◌∷◌, leb, length, take, drop, if◌then◌else◌}
 use Rattle.std.proofs.Math.Seq.{paste}
-use Rattle.lists.specs.Lists.{if◌then◌else◌}
 use Rattle.plain.specs.Sizes.{buffer_size}
 
 -- bytes b in dst from `at` on, where there is place for all of them; else dst as it is

@@ -1,8 +1,7 @@
 -- "What each call does" and "What comes back". Where 01 says 3 ticks "the slice stands for 3" (request 3): that of the settings, n below.
 -- Assumes nothing.
-use Rattle.std.specs.Prelude.{ℕ, zero, suc, ◌+◌, ◌-◌, Bool, true, false, not, ◌||◌, List, [], ◌∷◌, ◌++◌, length, ltb, leb, eqb}
+use Rattle.std.specs.Prelude.{ℕ, zero, suc, ◌+◌, ◌-◌, Bool, true, false, not, ◌||◌, List, [], ◌∷◌, ◌++◌, length, ltb, leb, eqb, if◌then◌else◌}
 use Rattle.std.proofs.Math.Option.{Option, none, some}
-use Rattle.lists.specs.Lists.{if◌then◌else◌}
 use Rattle.plain.specs.Sizes.{processes, classes, mailboxes, longest, semaphores, highest_count, at_mailbox, at_semaphore}
 use Rattle.plain.specs.State.{Message, Procs, State, level, line, rank, left, move, give, fill, score, unused, free_process}
 use Rattle.plain.specs.Names.{born, raised, name, bare, names}

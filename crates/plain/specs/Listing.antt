@@ -1,7 +1,7 @@
 -- The listing: the row of each process.
 -- Assumes nothing.
-use Rattle.std.specs.Prelude.{ℕ, ◌+◌, ◌-◌, [], ◌∷◌, length, ltb, eqb}
-use Rattle.lists.specs.Lists.{if◌then◌else◌, occurs, ahead, lowest}
+use Rattle.std.specs.Prelude.{ℕ, ◌+◌, ◌-◌, [], ◌∷◌, length, ltb, eqb, if◌then◌else◌}
+use Rattle.lists.specs.Lists.{occurs, ahead, lowest}
 use Rattle.plain.specs.Sizes.{processes, classes, mailboxes, queues}
 use Rattle.plain.specs.State.{State}
 use Rattle.plain.specs.Calls.{Refusal, Outcome, is_empty, bytes_in, done, judge}

@@ -1,7 +1,7 @@
 -- Request 5, mailboxes with their own size and habit: "Meter readings push out stale ones; rider text never may."
 -- Assumes nothing.
-use Rattle.std.specs.Prelude.{ℕ, ◌≤◌, Bool, not, ◌&&◌, ◌||◌, ◌≡◌, List, ltb, leb, eqb, length, drop}
-use Rattle.lists.specs.Lists.{if◌then◌else◌, put, someone}
+use Rattle.std.specs.Prelude.{ℕ, ◌≤◌, Bool, not, ◌&&◌, ◌||◌, ◌≡◌, List, ltb, leb, eqb, length, drop, if◌then◌else◌}
+use Rattle.lists.specs.Lists.{put, someone}
 use Rattle.plain.specs.Sizes.{mailboxes, at_mailbox}
 use Rattle.plain.specs.State.{Settings, State, usual, fill}
 use Rattle.plain.specs.Pages.{needed, lowest_free, too_few}

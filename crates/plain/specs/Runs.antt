@@ -1,7 +1,7 @@
 -- "Who runs": choose, make ready, and how a process changes its place. A full slice has n ticks, which stand where 01 says 3.
 -- Assumes nothing.
-use Rattle.std.specs.Prelude.{ℕ, zero, suc, Bool, ◌||◌, List, [], ◌∷◌, ◌++◌, ltb, eqb}
-use Rattle.lists.specs.Lists.{if◌then◌else◌, without}
+use Rattle.std.specs.Prelude.{ℕ, zero, suc, Bool, ◌||◌, List, [], ◌∷◌, ◌++◌, ltb, eqb, if◌then◌else◌}
+use Rattle.lists.specs.Lists.{without}
 use Rattle.plain.specs.Sizes.{classes}
 use Rattle.plain.specs.State.{Procs, level, run, lines, line, rank, left}
 

@@ -1,7 +1,7 @@
 -- "Why is the printer waiting?": the reasons, what each says of a process of a state, and the one that is given.
 -- Assumes nothing.
-use Rattle.std.specs.Prelude.{ℕ, suc, ◌+◌, ◌-◌, ◌<◌, Bool, not, ◌&&◌, List, [], ◌∷◌, ◌++◌, ◌≢◌, ◌⊎◌, ◌≡◌, ltb, eqb, length}
-use Rattle.lists.specs.Lists.{if◌then◌else◌, ahead}
+use Rattle.std.specs.Prelude.{ℕ, suc, ◌+◌, ◌-◌, ◌<◌, Bool, not, ◌&&◌, List, [], ◌∷◌, ◌++◌, ◌≢◌, ◌⊎◌, ◌≡◌, ltb, eqb, length, if◌then◌else◌}
+use Rattle.lists.specs.Lists.{ahead}
 use Rattle.plain.specs.Sizes.{classes, mailboxes, semaphores, at_mailbox, at_semaphore, queues}
 use Rattle.plain.specs.State.{Procs, State, level, places}
 use Rattle.plain.specs.Names.{bare, names}

@@ -8,7 +8,8 @@ use mathlib.Core.List.{List, [], ◌∷◌, ◌++◌}
 use native.Mathlib.Omega.{arith}
 use lib.Dec.{eqb, leb}
 use borrow.Author.Tests.{eq-eqb, ne_eqb, eqb-true, lt-leb}
-use Rattle.lists.specs.Lists.{if◌then◌else◌, put, occurs, without, total}
+use Rattle.std.specs.Prelude.{if◌then◌else◌}
+use Rattle.lists.specs.Lists.{put, occurs, without, total}
 use Rattle.lists.proofs.Laws.{either, or_false, both_true, same?, le?, put_same, put_other, put_cases, occurs-append, occurs-without_other, total-at, total-le, total_lt, total_times}
 use Rattle.plain.specs.Sizes.{processes}
 use Rattle.plain.specs.State.{Procs, State, level, places}

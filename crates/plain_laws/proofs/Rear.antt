@@ -9,7 +9,8 @@ use native.Mathlib.Omega.{arith}
 use lib.Dec.{eqb}
 use lib.ListN.{take, drop}
 use borrow.Author.Tests.{eqb-true, eqb-false, leb-false, not-false}
-use Rattle.lists.specs.Lists.{if◌then◌else◌, occurs}
+use Rattle.std.specs.Prelude.{if◌then◌else◌}
+use Rattle.lists.specs.Lists.{occurs}
 use Rattle.lists.proofs.Laws.{same?, or_false, one_other}
 use Rattle.plain.specs.Sizes.{processes, classes, at_mailbox, at_semaphore}
 use Rattle.plain.specs.State.{Message, Procs, State, line, rank, fill, free_process}

@@ -9,7 +9,8 @@ use native.Mathlib.Omega.{arith}
 use lib.Dec.{ltb, eqb}
 use lib.ListN.{length, length-append}
 use borrow.Author.Tests.{eqb-true, eqb-false, eq-eqb, ne_eqb, lt-ltb, le-ltb, ltb-true, not-true}
-use Rattle.lists.specs.Lists.{if◌then◌else◌, occurs, ahead}
+use Rattle.std.specs.Prelude.{if◌then◌else◌}
+use Rattle.lists.specs.Lists.{occurs, ahead}
 use Rattle.lists.proofs.Laws.{either, both_true, same?, le?, one_same, one_other, occurs-append, lowest-passes, lowest_is, lowest_none, total_zero, at_most, stands, ahead_split}
 use Rattle.plain.specs.Sizes.{processes, classes, mailboxes, semaphores, at_mailbox, at_semaphore, queues}
 use Rattle.plain.specs.State.{Procs, State, level, spots, places}

@@ -1,7 +1,7 @@
 -- What the theorems count over any calls: ticks, turns, messages sent and gone, refusals passed.
 -- Assumes nothing.
-use Rattle.std.specs.Prelude.{ℕ, ◌+◌, ◌-◌, ◌≤◌, ◌≡◌, Bool, true, false, not, ◌&&◌, ◌||◌, List, [], ◌∷◌, ◌++◌, eqb, leb, take}
-use Rattle.lists.specs.Lists.{if◌then◌else◌, someone, total, occurs}
+use Rattle.std.specs.Prelude.{ℕ, ◌+◌, ◌-◌, ◌≤◌, ◌≡◌, Bool, true, false, not, ◌&&◌, ◌||◌, List, [], ◌∷◌, ◌++◌, eqb, leb, take, if◌then◌else◌}
+use Rattle.lists.specs.Lists.{someone, total, occurs}
 use Rattle.plain.specs.Sizes.{processes, at_mailbox, at_semaphore}
 use Rattle.plain.specs.State.{Procs, Settings, State, level, unused, free_process}
 use Rattle.plain.specs.Mailboxes.{allotted, overflows}

@@ -1,7 +1,7 @@
 -- Every accepted call is a chain of moves, each of one process, then settling who runs. The laws go by cases on moves, not on calls.
 -- Assumes nothing.
-use Rattle.std.specs.Prelude.{ℕ, suc, ◌≤◌, ◌<◌, ◌≡◌, ◌≢◌, [], ◌∷◌, ◌++◌, eqb}
-use Rattle.lists.specs.Lists.{if◌then◌else◌, occurs, without}
+use Rattle.std.specs.Prelude.{ℕ, suc, ◌≤◌, ◌<◌, ◌≡◌, ◌≢◌, [], ◌∷◌, ◌++◌, eqb, if◌then◌else◌}
+use Rattle.lists.specs.Lists.{occurs, without}
 use Rattle.plain.specs.Sizes.{processes, classes, queues}
 use Rattle.plain.specs.State.{Procs, level, run, lines, line, rank, left, places}
 use Rattle.plain.specs.Runs.{choose, stand_down}

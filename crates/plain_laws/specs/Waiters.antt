@@ -1,7 +1,7 @@
 -- The theorems of request 10, "Waiters get what they were promised. Show that nobody barges in.", over histories from fresh, as a statement. It is proved under its own name in proofs/Theorems.antt.
 -- Assumes nothing.
-use Rattle.std.specs.Prelude.{ℕ, ◌+◌, ◌≤◌, ◌<◌, Bool, true, false, not, ◌&&◌, List, [], ◌∷◌, ◌++◌, map, ◌⊎◌, ◌≡◌, ltb, eqb, drop}
-use Rattle.lists.specs.Lists.{if◌then◌else◌, someone, ahead}
+use Rattle.std.specs.Prelude.{ℕ, ◌+◌, ◌≤◌, ◌<◌, Bool, true, false, not, ◌&&◌, List, [], ◌∷◌, ◌++◌, map, ◌⊎◌, ◌≡◌, ltb, eqb, drop, if◌then◌else◌}
+use Rattle.lists.specs.Lists.{someone, ahead}
 use Rattle.plain.specs.Sizes.{mailboxes, semaphores, at_mailbox, at_semaphore}
 use Rattle.plain.specs.State.{Procs, Settings, State, start, unused}
 use Rattle.plain.specs.Calls.{Call, create, stop, end, yield, class, tick, mailbox, send, receive, read, release, signal, wait, Outcome, is_empty, bytes_in, step, after}

@@ -1,7 +1,7 @@
 -- What is read off the numbers of the struct, and what they become by each operation: the terms in which the contracts are written.
 -- Total: for any numbers, any process number, any class and any queue number. Assumes nothing.
-use Rattle.std.specs.Prelude.{ℕ, ◌-◌, Bool, true, false, not, ◌||◌, get_or, set, replicate, eqb, ltb}
-use Rattle.lists.specs.Lists.{if◌then◌else◌, put, lowest}
+use Rattle.std.specs.Prelude.{ℕ, ◌-◌, Bool, true, false, not, ◌||◌, get_or, set, replicate, eqb, ltb, if◌then◌else◌}
+use Rattle.lists.specs.Lists.{put, lowest}
 use Rattle.bits.specs.Word.{width, word, bits, highest}
 use Rattle.rings.specs.Ring.{Tables}
 use Rattle.rings.specs.Moves as Rings

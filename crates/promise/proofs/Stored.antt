@@ -12,7 +12,8 @@ use lib.ListN.{length, take, drop}
 use lib.Seq.{take-length, take-append-le, length-take-le}
 use borrow.Author.Tests.{eqb-true, eqb-false, ltb-false, leb-false, not-false}
 use Rattle.lists.proofs.Laws.{put_cases}
-use Rattle.lists.specs.Lists.{if◌then◌else◌, put, occurs}
+use Rattle.std.specs.Prelude.{if◌then◌else◌}
+use Rattle.lists.specs.Lists.{put, occurs}
 use Rattle.plain.specs.Calls as Plain
 use Rattle.plain.specs.Calls.{create, stop, end, yield, class, tick, mailbox, send, receive, read, release, signal, wait}
 use Rattle.plain.specs.Mailboxes.{relieved, buffers_for}

@@ -1,7 +1,6 @@
 -- Who stands in a queue, from first to last, read off the links on.
 -- Total: for any links and any queue number. Assumes nothing.
-use Rattle.std.specs.Prelude.{ℕ, zero, suc, ◌+◌, List, [], ◌∷◌, ltb, get_or}
-use Rattle.lists.specs.Lists.{if◌then◌else◌}
+use Rattle.std.specs.Prelude.{ℕ, zero, suc, ◌+◌, List, [], ◌∷◌, ltb, get_or, if◌then◌else◌}
 use Rattle.queues.specs.Queue.{processes, queues}
 
 -- on along the links from a node, through processes, to one that is none; at most so many

@@ -8,7 +8,8 @@ use mathlib.Core.Path.{◌≡◌, refl, sym, ◌∙◌}
 use native.Mathlib.Omega.{arith}
 use lib.Dec.{ltb}
 use borrow.Author.Tests.{eq-eqb, ne_eqb, not-false, lt-ltb}
-use Rattle.lists.specs.Lists.{if◌then◌else◌, ahead}
+use Rattle.std.specs.Prelude.{if◌then◌else◌}
+use Rattle.lists.specs.Lists.{ahead}
 use Rattle.lists.proofs.Laws.{same?}
 use Rattle.rings.proofs.Laws.{placed, elsewhere}
 use Rattle.plain.specs.Calls as Calls

@@ -1,7 +1,6 @@
 -- The reason of a process by the numbers of a struct, and what refuses the question.
 -- Total: for any numbers. Assumes nothing.
-use Rattle.std.specs.Prelude.{ℕ, suc, List, [], ◌∷◌, eqb}
-use Rattle.lists.specs.Lists.{if◌then◌else◌}
+use Rattle.std.specs.Prelude.{ℕ, suc, List, [], ◌∷◌, eqb, if◌then◌else◌}
 use Rattle.plain.specs.Calls.{Refusal}
 use Rattle.plain.specs.State.{Procs, State}
 use Rattle.plain.specs.Why as Plain

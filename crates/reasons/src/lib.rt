@@ -2,8 +2,7 @@
 // Any struct is answered for: one that is not sound with 14.
 #![tactic(auto)]
 
-ghost use Rattle.std.specs.Prelude.{◌≡◌, suc, ◌≤◌};
-ghost use Rattle.lists.specs.Lists.{if◌then◌else◌};
+ghost use Rattle.std.specs.Prelude.{◌≡◌, suc, ◌≤◌, if◌then◌else◌};
 ghost use Rattle.plain.specs.Sizes.{processes};
 ghost use Rattle.plain.specs.Why as Plain;
 ghost use Rattle.procs.specs.Stands as Stands;

@@ -9,7 +9,8 @@ use native.Mathlib.Omega.{arith}
 use lib.Dec.{ltb}
 use lib.ListN.{length, get_or, replicate, length-replicate, length-append}
 use borrow.Author.Tests.{lt-ltb, le-ltb}
-use Rattle.lists.specs.Lists.{if◌then◌else◌, occurs, ahead}
+use Rattle.std.specs.Prelude.{if◌then◌else◌}
+use Rattle.lists.specs.Lists.{occurs, ahead}
 use Rattle.lists.proofs.Laws.{same?, le?, stands, ahead_split, zeros}
 use Rattle.plain.specs.Sizes.{processes, classes, mailboxes, semaphores, queues}
 use Rattle.rings.specs.Ring.{Tables, Absent, Rings}

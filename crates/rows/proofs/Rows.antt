@@ -13,7 +13,8 @@ use mir.Syntax.{w16}
 use mir.Val.{Fits}
 use borrow.Author.Tests.{eq-eqb, ne_eqb, lt-ltb}
 use Rattle.bits.specs.Word.{bit}
-use Rattle.lists.specs.Lists.{if◌then◌else◌, ahead}
+use Rattle.std.specs.Prelude.{if◌then◌else◌}
+use Rattle.lists.specs.Lists.{ahead}
 use Rattle.lists.proofs.Laws.{same?}
 use Rattle.rings.proofs.Laws.{placed, elsewhere}
 use Rattle.plain.specs.Calls.{is_empty}

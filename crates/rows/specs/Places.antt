@@ -1,7 +1,6 @@
 -- Where a process stands, read off the numbers of a struct: the first three columns of its row.
 -- Total: for any numbers and any process number. Assumes nothing.
-use Rattle.std.specs.Prelude.{ℕ, zero, suc, ◌+◌, ◌*◌, ◌/◌, ◌%◌, ◌<◌, List, ◌≡◌, eqb, get_or, replicate}
-use Rattle.lists.specs.Lists.{if◌then◌else◌}
+use Rattle.std.specs.Prelude.{ℕ, zero, suc, ◌+◌, ◌*◌, ◌/◌, ◌%◌, ◌<◌, List, ◌≡◌, eqb, get_or, replicate, if◌then◌else◌}
 use Rattle.plain.specs.Sizes.{processes, classes, mailboxes, semaphores}
 use Rattle.queues.specs.Lines.{line}
 use Rattle.queues.specs.Noted.{one_ahead, noted}

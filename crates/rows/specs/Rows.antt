@@ -1,8 +1,7 @@
 -- The promise about the rows: for any struct in its numbers, and the plain kernel's rows where the struct holds a plain state.
 -- Assumes nothing.
-use Rattle.std.specs.Prelude.{ℕ, eqb}
+use Rattle.std.specs.Prelude.{ℕ, eqb, if◌then◌else◌}
 use Rattle.bits.specs.Word.{bit}
-use Rattle.lists.specs.Lists.{if◌then◌else◌}
 use Rattle.plain.specs.Listing as Plain
 use Rattle.plain.specs.State.{State}
 use Rattle.procs.specs.Moves.{class_at, ticks_at}

@@ -1,7 +1,6 @@
 // Where everyone stands: every queue walked once from its head, and of each process that is met its place, which and position noted.
 // The links may lead anywhere.
-ghost use Rattle.std.specs.Prelude.{◌+◌, ◌≤◌, map, ◌≡◌, eqb, get_or};
-ghost use Rattle.lists.specs.Lists.{if◌then◌else◌};
+ghost use Rattle.std.specs.Prelude.{◌+◌, ◌≤◌, map, ◌≡◌, eqb, get_or, if◌then◌else◌};
 ghost use Rattle.plain.specs.Sizes.{queues};
 ghost use Rattle.queues.specs.Queue.{num};
 ghost use Rattle.procs.specs.Stands as Stands;

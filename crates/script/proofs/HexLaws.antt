@@ -11,7 +11,7 @@ use lib.ListN.{length, get_or, drop, length-drop, drop_of_length-le}
 use lib.Seq.{drop-drop}
 use lib.Dec.{leb}
 use borrow.Author.Tests.{leb-true, le-leb, lt-leb}
-use Rattle.lists.specs.Lists.{if◌then◌else◌}
+use Rattle.std.specs.Prelude.{if◌then◌else◌}
 use Rattle.answers.specs.Ascii.{ascii}
 use Rattle.script.specs.Grammar.{is_digit, hex_digit, byte, prepend, pairs, at_most, bytes, most_bytes, same}
 use Rattle.script.specs.Spelled.{spelled, or_zero}

@@ -12,7 +12,7 @@ use lib.Seq.{drop-append_seam, drop-length}
 use lib.Dec.{leb, ltb}
 use borrow.Author.Rules.{rules}
 use borrow.Author.Tests.{leb-true}
-use Rattle.lists.specs.Lists.{if◌then◌else◌}
+use Rattle.std.specs.Prelude.{if◌then◌else◌}
 use Rattle.plain.specs.Calls.{send, read}
 use Rattle.answers.specs.Ascii.{ascii}
 use Rattle.script.specs.Grammar.{Order, does, longest_line, largest_room, most_bytes, words, same, number, pairs, at_most, bytes, beside, alone, reading, numbered, followed, thrice, given, sentence, order}

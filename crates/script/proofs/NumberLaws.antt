@@ -10,7 +10,7 @@ use native.Mathlib.Omega.{arith}
 use lib.ListN.{length, get_or, drop, drop_of_length-le}
 use lib.Dec.{leb, eqb}
 use borrow.Author.Tests.{leb-true, leb-false, le-leb, lt-leb}
-use Rattle.lists.specs.Lists.{if◌then◌else◌}
+use Rattle.std.specs.Prelude.{if◌then◌else◌}
 use Rattle.script.specs.Grammar.{is_digit, digits, up_to, highest_number, leading_zero, number}
 use Rattle.script.specs.Promises.{number_of, next_digit}
 use Rattle.script.specs.declared.numbers.Number.{Number}

@@ -1,8 +1,7 @@
 -- The words in which the private functions promise what they give.
 -- Assumes nothing.
-use Rattle.std.specs.Prelude.{ℕ, suc, List, [], ◌∷◌, length, eqb}
+use Rattle.std.specs.Prelude.{ℕ, suc, List, [], ◌∷◌, length, eqb, if◌then◌else◌}
 use Rattle.std.proofs.Math.Option.{Option, none, some}
-use Rattle.lists.specs.Lists.{if◌then◌else◌}
 use Rattle.answers.specs.Ascii.{space}
 use Rattle.plain.specs.Calls.{send}
 use Rattle.script.specs.Grammar.{Order, does, given, up_to, digits, highest_number, byte, hex_digit, bytes}

@@ -7,7 +7,7 @@ use mathlib.Core.Path.{refl}
 use native.Mathlib.Omega.{arith}
 use lib.Dec.{eqb}
 use lib.ListN.{length}
-use Rattle.lists.specs.Lists.{if◌then◌else◌}
+use Rattle.std.specs.Prelude.{cond}
 use Rattle.answers.proofs.AreaLaws.{written-whole, one_written}
 use Rattle.telling.specs.Theorems.{Same, One, OneTold, OneFault, TextFits}
 use Rattle.telling.specs.Promise.{no_state, Refused, refused, OfInput}
@@ -19,7 +19,7 @@ one_fault words _ _ _ _ refused refused = record { good = refl; text = refl }
 pub one_of_input : (area : List ℕ) (Is : Bool → List ℕ → Type 0) → One Is → One (OfInput area Is)
 one_of_input area Is one good₁ good₂ text₁ text₂ a b = go (eqb (length area) 0) a b
   where
-    go : (t : Bool) → (if t then Refused no_state good₁ text₁ else Is good₁ text₁) → (if t then Refused no_state good₂ text₂ else Is good₂ text₂) → Same good₁ good₂ text₁ text₂
+    go : (t : Bool) → cond t (Refused no_state good₁ text₁) (Is good₁ text₁) → cond t (Refused no_state good₂ text₂) (Is good₂ text₂) → Same good₁ good₂ text₁ text₂
     go true c d = one_fault no_state good₁ good₂ text₁ text₂ c d
     go false c d = one good₁ good₂ text₁ text₂ c d
 

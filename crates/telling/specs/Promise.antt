@@ -1,7 +1,6 @@
 -- What is told, in a lent area: which text, whether it is what was asked for, and the faults that every question about a stored state has.
 -- Assumes nothing.
-use Rattle.std.specs.Prelude.{ℕ, ◌≤◌, Bool, false, List, eqb, length}
-use Rattle.lists.specs.Lists.{if◌then◌else◌}
+use Rattle.std.specs.Prelude.{ℕ, ◌≤◌, Bool, false, List, eqb, length, cond}
 use Rattle.answers.specs.Ascii.{ascii}
 use Rattle.answers.specs.Written.{Written}
 use Rattle.telling.specs.declared.Told.{Told}
@@ -21,7 +20,7 @@ pub data Refused (words : List ℕ) : Bool → List ℕ → Type 0 where
 
 -- an input of no bytes is no state; of any other it is told what is meant
 abbrev pub OfInput : List ℕ → (Bool → List ℕ → Type 0) → Bool → List ℕ → Type 0
-OfInput area Is good text = if eqb (length area) 0 then Refused no_state good text else Is good text
+OfInput area Is good text = cond (eqb (length area) 0) (Refused no_state good text) (Is good text)
 
 -- the text that is meant, which a room of so many bytes takes, is written over the start of the area `old`
 pub record Gives (room : ℕ) (Is : Bool → List ℕ → Type 0) (old new : List ℕ) (r : Told) : Type 0 where

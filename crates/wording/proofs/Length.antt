@@ -7,7 +7,7 @@ use mathlib.Core.Path.{◌≡◌, ◌∙◌}
 use native.Mathlib.Omega.{arith}
 use lib.Dec.{eqb}
 use lib.ListN.{length, length-append}
-use Rattle.lists.specs.Lists.{if◌then◌else◌}
+use Rattle.std.specs.Prelude.{if◌then◌else◌}
 use Rattle.plain.specs.Calls.{Answer}
 use Rattle.plain.specs.Why.{Reason, unused, running, ready, mailbox, semaphore, behind}
 use Rattle.answers.specs.Answer.{decimal, line}

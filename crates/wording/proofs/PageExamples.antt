@@ -5,7 +5,8 @@ use Prim.Native.String.{String}
 use mathlib.Core.Path.{◌≡◌, refl}
 use mathlib.Core.List.{List, [], ◌∷◌, ◌++◌, map}
 use lib.Dec.{eqb}
-use Rattle.lists.specs.Lists.{if◌then◌else◌, total}
+use Rattle.std.specs.Prelude.{if◌then◌else◌}
+use Rattle.lists.specs.Lists.{total}
 use Rattle.plain.specs.Names.{name}
 use Rattle.answers.specs.Answer.{digits_of, decimal}
 use Rattle.answers.specs.Ascii.{ascii}

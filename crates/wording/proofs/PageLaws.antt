@@ -8,7 +8,8 @@ use native.Mathlib.Omega.{arith}
 use native.Mathlib.Numerals.{add-one}
 use lib.Dec.{eqb, ltb}
 use lib.ListN.{length, length-append, replicate, length-replicate}
-use Rattle.lists.specs.Lists.{if◌then◌else◌, total}
+use Rattle.std.specs.Prelude.{if◌then◌else◌}
+use Rattle.lists.specs.Lists.{total}
 use Rattle.lists.proofs.Laws.{total-same}
 use Rattle.plain.specs.Names as Names
 use Rattle.plain.specs.Sizes.{processes}

@@ -1,7 +1,7 @@
 -- The rows of a state as a page for people: a header, a line for each process in use, and how many are not.
 -- Total: for any numbers in a row. Assumes nothing.
-use Rattle.std.specs.Prelude.{ℕ, zero, suc, ◌+◌, ◌-◌, ◌*◌, Bool, ◌&&◌, List, [], ◌∷◌, ◌++◌, eqb, ltb, leb, length, get_or, replicate}
-use Rattle.lists.specs.Lists.{if◌then◌else◌, total}
+use Rattle.std.specs.Prelude.{ℕ, zero, suc, ◌+◌, ◌-◌, ◌*◌, Bool, ◌&&◌, List, [], ◌∷◌, ◌++◌, eqb, ltb, leb, length, get_or, replicate, if◌then◌else◌}
+use Rattle.lists.specs.Lists.{total}
 use Rattle.plain.specs.Sizes.{processes}
 use Rattle.answers.specs.Answer.{decimal}
 use Rattle.answers.specs.Ascii.{ascii, space}

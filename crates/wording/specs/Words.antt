@@ -1,7 +1,6 @@
 -- A reason in words: the desk's, and the sentences that a stagehand is told.
 -- Assumes nothing.
-use Rattle.std.specs.Prelude.{ℕ, List, ◌∷◌, ◌++◌, eqb}
-use Rattle.lists.specs.Lists.{if◌then◌else◌}
+use Rattle.std.specs.Prelude.{ℕ, List, ◌∷◌, ◌++◌, eqb, if◌then◌else◌}
 use Rattle.plain.specs.Calls.{Answer}
 use Rattle.plain.specs.Why.{Reason, unused, running, ready, mailbox, semaphore, behind}
 use Rattle.answers.specs.Answer.{decimal, line}

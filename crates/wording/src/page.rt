@@ -1,6 +1,5 @@
 // The rows of all processes as a page. Assumes nothing but what a `requires` says.
-ghost use Rattle.std.specs.Prelude.{◌≡◌, ◌+◌, ◌*◌, ◌≤◌, length};
-ghost use Rattle.lists.specs.Lists.{if◌then◌else◌};
+ghost use Rattle.std.specs.Prelude.{◌≡◌, ◌+◌, ◌*◌, ◌≤◌, length, if◌then◌else◌};
 ghost use Rattle.names.specs.Counts.{count_in};
 ghost use Rattle.plain.specs.Names.{name};
 ghost use Rattle.plain.specs.Sizes.{processes};
