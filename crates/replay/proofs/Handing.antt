@@ -3,8 +3,10 @@
 use Prim.Native.Nat.{ℕ, ◌+◌, ◌-◌, ◌≤◌}
 use mathlib.Core.List.{List, [], ◌∷◌, ◌++◌, append_assoc, append-nil}
 use mathlib.Core.Path.{◌≡◌, sym}
+use native.Mathlib.Omega.{arith}
 use lib.ListN.{length, take, drop}
-use lib.Seq.{take-add, take-take, take_all}
+use lib.Seq.{take-add, take-take, take_all, length-take-le}
+use Rattle.std.specs.Prelude.{Result, Ok, Err, OnErr}
 use Rattle.answers.proofs.AreaLaws.{written_within}
 use Rattle.desk.specs.declared.Turn.{Turn}
 use Rattle.feed.specs.Takes.{FromFresh, Feeds, Finishes}
@@ -14,6 +16,7 @@ use Rattle.feed.specs.declared.Fed.{Fed}
 use Rattle.feed.proofs.BufferLaws.{empty}
 use Rattle.feed.proofs.Theorems.{chunks}
 use Rattle.replay.specs.Replays.{Handed, all_of, Replays}
+use Rattle.replay.specs.Broken.{Broken, BrokenReplay}
 
 chunks_append : {o o' o'' : Ongoing} {store line store' line' store'' line'' b₁ b₂ w₁ w₂ : List ℕ} → Chunks o store line b₁ w₁ o' store' line' → Chunks o' store' line' b₂ w₂ o'' store'' line'' → Chunks o store line (b₁ ++ b₂) (w₁ ++ w₂) o'' store'' line''
 chunks_append Chunks.none d = d
@@ -55,3 +58,22 @@ pub last_within : {o : Ongoing} {store line store' line' out store'' out' : List
 last_within {line = line} a f =
     let after = chunks a.handed.chunks [] (rw a.fresh.held (empty line)) in
     written_within (f after.left after.holds).written
+
+-- where a read or a write fails
+pub on_err : {T E P : Type 0} (r : Result T E) → P → OnErr r P
+on_err (Ok x) p = tt
+on_err (Err e) p = p
+
+pub unread : {o : Ongoing} {store line : List ℕ} (bytes : List ℕ) → Broken o store line bytes store line
+unread {o} bytes = record { taken = 0; within = omega arith; next = o; handed = none }
+
+pub unwritten : {o o' : Ongoing} {store line bytes store' line' : List ℕ} (taken : ℕ) → taken ≤ length bytes → Handed o store line (take taken bytes) o' store' line' → Broken o store line bytes store' line'
+unwritten {o' = o'} taken h a = record { taken = taken; within = h; next = o'; handed = a }
+
+pub broken_within : {o : Ongoing} {store line bytes store' line' : List ℕ} (n : ℕ) → n ≤ length bytes → Broken o store line (take n bytes) store' line' → Broken o store line bytes store' line'
+broken_within {bytes = bytes} n h b =
+    let small : b.taken ≤ n = omega (arith, b.within, length-take-le n bytes h) in
+    record { taken = b.taken; within = omega (arith, small, h); next = b.next; handed = rw (take-take b.taken n bytes small) at b.handed }
+
+pub broken_replay : {o : Ongoing} {store₀ line₀ store line bytes store' line' : List ℕ} → Replays store₀ line₀ o store line → Broken o store line bytes store' line' → BrokenReplay store₀ line₀ store' line'
+broken_replay a b = record { next = b.next; replayed = replayed a b.handed }

@@ -1,2 +1,3 @@
 pub mod Replays
+pub mod Broken
 pub mod Theorems

@@ -1,37 +1,43 @@
 // The replay desk: a script on standard input, one line written for each line read. What is done with the bytes is the crate feed's.
-// Here they are read, handed over, and the answers written. Assumes the contracts of the kit's read and write.
+// Here they are read, handed over, and the answers written. What std's read and write do is assumed; where one fails, the program ends with that error.
 #![tactic(auto)]
 
-ghost use Rattle.std.specs.Prelude.{◌≡◌, length, take};
+ghost use Rattle.std.specs.Prelude.{◌≡◌, length, take, IfOk, OnErr};
 ghost use Rattle.plain.specs.Sizes.{store_size};
 ghost use Rattle.replay.specs.Replays.{out_size, Handed, Replays, WholeReplay};
+ghost use Rattle.replay.specs.Broken.{Broken, BrokenReplay, BrokenInput};
 
 use desk::Turn;
 use feed::Ongoing;
-use libc::{STDIN_FILENO, STDOUT_FILENO};
 use script::LONGEST_LINE;
+use std::io;
+
+// The bytes of the area that is read into, and of the one that answers are written from.
+const OUT_SIZE: usize = 65536;
 
 // A chunk is handed over until none of it is left. Each time what was answered is written, so that it is there before more is read.
 fn chunk(
+    to: &impl Print,
     o: Ongoing,
     bytes: &[u8],
     store: &mut [u8],
     line: &mut [u8; LONGEST_LINE],
     out: &mut [u8],
-) -> Ongoing
+) -> io::Result<Ongoing>
     requires { length out.old ≡ out_size }
-    ensures { Handed o store.old line.old bytes.now result store.new line.new }
+    ensures ok { IfOk result (λ next. Handed o store.old line.old bytes.now next store.new line.new) }
+    ensures err { OnErr result (Broken o store.old line.old bytes.now store.new line.new) }
 {
     let mut next = o;
     let mut from = 0;
     while from < bytes.len() {
         let f = feed::feed(next, store, line, &bytes[from..], out);
         let wrote = f.wrote;
-        io::write_all(STDOUT_FILENO, &out[..wrote]);
+        to.write_all(&out[..wrote])?;
         from += f.used;
         next = f.next;
     }
-    next
+    Ok(next)
 }
 
 // How many bytes were read, none at the end of the input, and what goes on.
@@ -43,68 +49,79 @@ struct Read {
 
 // One read, and the answers to the lines that end in it.
 fn turn(
+    reader: &mut impl io::Read,
+    to: &impl Print,
     o: Ongoing,
     input: &mut [u8],
     store: &mut [u8],
     line: &mut [u8; LONGEST_LINE],
     out: &mut [u8],
-) -> Read
+) -> io::Result<Read>
     requires { length out.old ≡ out_size }
-    ensures { Handed o store.old line.old (take result.got input.new) result.next store.new line.new }
+    ensures ok { IfOk result (λ t. Handed o store.old line.old (take t.got input.new) t.next store.new line.new) }
+    ensures err { OnErr result (Broken o store.old line.old input.new store.new line.new) }
 {
-    let answered = libc::read(STDIN_FILENO, input);
-    if answered <= 0 {
-        return Read { got: 0, next: o };
-    }
-    let got = io::count(answered, input);
-    let next = chunk(o, &input[..got], store, line, out);
-    Read { got, next }
+    let got = reader.read(input)?;
+    let next = chunk(to, o, &input[..got], store, line, out)?;
+    Ok(Read { got, next })
 }
 
-// Reads until the input ends. A proved loop has to end too: it counts down from a number that no input uses up.
+// Reads until the input ends. A proved loop has to end too: it has more turns than any input uses up.
 fn every_turn(
+    reader: &mut impl io::Read,
+    to: &impl Print,
     input: &mut [u8],
     store: &mut [u8],
     line: &mut [u8; LONGEST_LINE],
     out: &mut [u8],
-) -> Ongoing
+) -> io::Result<Ongoing>
     requires { length out.old ≡ out_size }
-    ensures { Replays store.old line.old result store.new line.new }
+    ensures ok { IfOk result (λ next. Replays store.old line.old next store.new line.new) }
+    ensures err { OnErr result (BrokenReplay store.old line.old store.new line.new) }
 {
     let mut o = Ongoing::fresh();
-    let mut turns = u64::MAX;
-    while turns > 0 {
-        let t = turn(o, input, store, line, out);
+    for _ in 0..u64::MAX {
+        let t = turn(reader, to, o, input, store, line, out)?;
         o = t.next;
         if t.got == 0 {
-            return o;
+            break;
         }
-        turns -= 1;
     }
-    o
+    Ok(o)
 }
 
 // Every read, and then the end of the input.
 fn whole_input(
+    reader: &mut impl io::Read,
+    to: &impl Print,
     input: &mut [u8],
     store: &mut [u8],
     line: &mut [u8; LONGEST_LINE],
     out: &mut [u8],
-) -> Turn
+) -> io::Result<Turn>
     requires { (length store.old ≡ store_size) × (length out.old ≡ out_size) }
-    ensures { WholeReplay store.new result }
+    ensures ok { IfOk result (λ last. WholeReplay store.new last) }
+    ensures err { OnErr result (BrokenInput store.old line.old store.new line.new) }
 {
-    let o = every_turn(input, store, line, out);
+    let o = every_turn(reader, to, input, store, line, out)?;
     let last = feed::finish(o, store, line, out);
     let wrote = last.length;
-    io::write_all(STDOUT_FILENO, &out[..wrote]);
-    last
+    to.write_all(&out[..wrote])?;
+    Ok(last)
 }
 
-fn main() {
-    let mut input = io::large_buffer();
-    let mut out = io::large_buffer();
+fn main(rt: HostRuntime) -> io::Result<()> {
+    let mut input = [0u8; OUT_SIZE];
+    let mut out = [0u8; OUT_SIZE];
     let mut line = [0u8; LONGEST_LINE];
     let mut store = [0u8; sizes::STORE_SIZE];
-    whole_input(&mut input, &mut store, &mut line, &mut out);
+    whole_input(
+        &mut rt.stdin(),
+        &rt,
+        &mut input,
+        &mut store,
+        &mut line,
+        &mut out,
+    )?;
+    Ok(())
 }

@@ -12,11 +12,9 @@ use Rattle.plain.specs.Calls.{Answer}
 use Rattle.plain.specs.Listing as Plain
 use Rattle.plain.specs.Names.{name}
 use Rattle.plain.specs.Sizes.{processes}
-use Rattle.plain.specs.Sound.{Sound}
 use Rattle.plain.specs.State.{State}
 use Rattle.plain_laws.specs.History.{is_done}
 use Rattle.promise.specs.Promise as Promise
-use Rattle.kernel.specs.Promise.{said}
 use Rattle.kernel.specs.declared.Kernel.{Kernel}
 use Rattle.names.specs.Counts.{count_in}
 use Rattle.names.proofs.Laws.{counts_are}

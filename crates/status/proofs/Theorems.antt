@@ -4,7 +4,7 @@ use Prim.Native.Nat.{ℕ}
 use mathlib.Core.Bool.{Bool}
 use mathlib.Core.List.{List}
 use mathlib.Core.Path.{refl, sym, ◌∙◌}
-use Rattle.telling.specs.Theorems.{Same, One}
+use Rattle.telling.specs.Theorems.{Same}
 use Rattle.telling.specs.Promise.{OfInput}
 use Rattle.telling.proofs.Theorems.{one_of_input, one_told, text_fits}
 use Rattle.wording.specs.Page.{page_room}

@@ -1,10 +1,13 @@
 // Why a process waits, for a stagehand: its name as the one argument, a state area on standard input, one line written.
-// A reason goes to standard output, a word on what is wrong with the question to standard error. Assumes nothing.
+// A reason goes to standard output, a word on what is wrong with the question to standard error. Where a read or a write fails, the program ends with that error. Assumes what std's read and write do.
 #![tactic(auto)]
 
 mod explaining;
 
-use libc::{STDERR_FILENO, STDIN_FILENO, STDOUT_FILENO};
+ghost use Rattle.std.specs.Prelude.{◌≤◌, length, IfOk};
+
+use std::env::Env;
+use std::io;
 use wording::LONGEST;
 
 // Linux hands a program no longer word.
@@ -13,22 +16,47 @@ const LONGEST_WORD: usize = 131072;
 // One byte more than a state area has, so that a longer input is seen as one of another length.
 const INPUT: usize = board::SIZE + 1;
 
-fn write_line(fd: i32, text: &[u8]) {
-    io::write_all(fd, text);
-    io::write_all(fd, b"\n");
+// The letters of the first word after the program's name; none where there is no such word.
+fn first_word(rt: &impl Env, word: &mut [u8]) -> usize
+    ensures { result ≤ length word.new }
+{
+    match rt.arg(1, word) {
+        Ok(letters) => letters,
+        Err(_) => 0,
+    }
 }
 
-fn main() {
+// Reads until the area is full or the input ends; gives how many bytes were read.
+fn read_full(reader: &mut impl io::Read, area: &mut [u8]) -> io::Result<usize>
+    ensures { IfOk result (λ got. got ≤ length area.new) }
+{
+    let mut at = 0;
+    while at < area.len() {
+        let got = reader.read(&mut area[at..])?;
+        if got == 0 {
+            return Ok(at);
+        }
+        at += got;
+    }
+    Ok(at)
+}
+
+fn write_line(to: &impl Print, text: &[u8]) -> io::Result<()> {
+    to.write_all(text)?;
+    to.write_all(b"\n")
+}
+
+#[tactic(auto, using(answers::proofs::AreaLaws::written_within))]
+fn main(rt: HostRuntime) -> io::Result<()> {
     let mut word = [0u8; LONGEST_WORD];
-    let letters = os::arg(1, &mut word);
+    let letters = first_word(&rt, &mut word);
     let mut state = [0u8; INPUT];
-    let got = io::read_full(STDIN_FILENO, &mut state);
+    let got = read_full(&mut rt.stdin(), &mut state)?;
     let mut out = [0u8; LONGEST];
     let told = explaining::tell(&state[..got], &word[..letters], &mut out);
     let end = told.length;
     if told.good {
-        write_line(STDOUT_FILENO, &out[..end]);
-        return;
+        return write_line(&rt.stdout(), &out[..end]);
     }
-    write_line(STDERR_FILENO, &out[..end]);
+    write_line(&rt.stderr(), &out[..end])
 }
