@@ -16,7 +16,6 @@ use Rattle.plain.specs.Mailboxes.{allotted, allot, busy, is_full, drops, refuses
 use Rattle.plain.specs.Sizes.{mailboxes, longest, store_size, at_mailbox}
 use Rattle.plain.specs.Pages.{needed}
 use Rattle.plain.specs.Sound.{Sound}
-use Rattle.plain.specs.State as State
 use Rattle.plain.specs.State.{Settings, State, usual}
 use Rattle.plain_laws.proofs.Mail.{taken_range}
 use Rattle.plain_laws.proofs.Relief.{relieved_cases, overflow_full}

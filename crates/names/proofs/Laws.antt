@@ -10,7 +10,7 @@ use lib.ListN.{length, get_or-eq_default}
 use borrow.Author.Tests.{eq-eqb, ne_eqb}
 use Rattle.lists.specs.Lists.{put}
 use Rattle.lists.proofs.Laws.{same?, set_entries}
-use Rattle.plain.specs.Names.{rounds, raised, names, Births}
+use Rattle.plain.specs.Names.{rounds, raised, Births}
 use Rattle.plain.specs.Sizes.{processes}
 use Rattle.rings.specs.Decides.{Decides}
 use Rattle.names.specs.Counts.{count_in, Kept, born}

@@ -10,7 +10,6 @@ use Rattle.script.specs.Grammar.{does, words, bytes, given, sentence, order}
 use Rattle.script.specs.Request.{word_of, Tells}
 use Rattle.script.specs.Promises.{first_space, counted, sending}
 use Rattle.script.specs.declared.calls.Word.{Word}
-use Rattle.script.specs.declared.calls.Word.TheVariants as Word
 use Rattle.script.proofs.LimitLaws.{Fits, order_limited}
 use Rattle.script.proofs.WordLaws.{rest, words_cut, words-begin}
 

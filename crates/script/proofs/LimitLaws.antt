@@ -20,7 +20,6 @@ use Rattle.script.specs.Spelled.{spelled, lastly}
 use Rattle.script.specs.Promises.{sending}
 use Rattle.script.specs.Request.{meaning, word_of}
 use Rattle.script.specs.declared.calls.Word.{Word}
-use Rattle.script.specs.declared.calls.Word.TheVariants as Word
 use Rattle.script.proofs.NumberLaws.{not_some}
 use Rattle.script.proofs.HexLaws.{pairs-length, spelled-pairs}
 use Rattle.script.proofs.WordLaws.{Ends, ends}

@@ -1,5 +1,4 @@
 -- `boxes::bytes_of` meets its contract. The invariant: the first n bytes are the numbers of the first n links. Assumes nothing.
-use Prim.Native.Nat.{◌-◌}
 use Rattle.boxes.proofs.bytes_of.Goals as goal
 use Rattle.boxes.proofs.bytes_of.Invariants.{nodes}
 use Rattle.boxes.specs.Box.{num}

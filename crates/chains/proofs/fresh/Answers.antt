@@ -1,5 +1,4 @@
 -- `chains::fresh` meets its contract. The invariant: the first i entries are 0 to i - 1. Assumes nothing.
-use Prim.Native.Nat.{◌-◌}
 use Rattle.bits.specs.Word.{width}
 use Rattle.chains.proofs.fresh.Goals as goal
 use Rattle.chains.specs.Links.{num}

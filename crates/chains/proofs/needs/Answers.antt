@@ -1,5 +1,4 @@
 -- `chains::needs` meets its contract. The invariant: the entries below b are filled in. Assumes nothing.
-use Prim.Native.Nat.{◌-◌}
 use Rattle.chains.proofs.Arrays.{set_more}
 use Rattle.chains.proofs.needs.Goals as goal
 use Rattle.chains.specs.Links.{need_at}

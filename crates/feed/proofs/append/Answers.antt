@@ -1,6 +1,5 @@
 -- `feed::append` meets its contract. The loop's invariant: the first bytes of the piece stand behind what was held.
 -- Assumes nothing.
-use Prim.Native.Nat.{◌-◌}
 use Rattle.feed.proofs.BufferLaws.{longer, too_long_lem}
 use Rattle.feed.proofs.append.Goals as goal
 use borrow.Author.Rules.{rules}

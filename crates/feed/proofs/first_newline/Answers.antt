@@ -1,6 +1,5 @@
 -- `feed::first_newline` meets its contract. The loop's invariant: none of the bytes passed is a newline.
 -- Assumes nothing.
-use Prim.Native.Nat.{◌-◌}
 use Rattle.feed.proofs.first_newline.Goals as goal
 use borrow.Author.Count.{below_more}
 use borrow.Author.Rules.{rules}

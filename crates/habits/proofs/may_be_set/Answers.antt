@@ -1,5 +1,5 @@
 -- `habits::may_be_set` meets its contract. The invariant: `all` says whether every mailbox below m may be set so. Assumes nothing.
-use Prim.Native.Nat.{ℕ, ◌-◌}
+use Prim.Native.Nat.{ℕ}
 use Rattle.habits.proofs.Laws.{each-habits, habits-each}
 use Rattle.habits.proofs.may_be_set.Goals as goal
 use Rattle.habits.specs.Size.{Size}

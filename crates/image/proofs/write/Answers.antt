@@ -1,7 +1,7 @@
 -- `image::write` meets its contract. Assumes nothing.
 use Rattle.image.proofs.Areas.{puts, put_whole}
 use Rattle.image.proofs.write.Goals as goal
-use Rattle.image.specs.Image.{procs, mail, image}
+use Rattle.image.specs.Image.{image}
 use Rattle.plain.specs.Sizes.{semaphores}
 use borrow.Author.Rules.{rules}
 use lib.ListN.{length}

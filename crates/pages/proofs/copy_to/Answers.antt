@@ -1,5 +1,5 @@
 -- `pages::copy_to` meets its contract. Assumes nothing.
-use Prim.Native.Nat.{ℕ, ◌+◌, ◌-◌}
+use Prim.Native.Nat.{ℕ, ◌+◌}
 use Rattle.pages.proofs.copy_to.Goals as goal
 use borrow.Author.Rules.{rules}
 use lib.ListN.{get_or, set, length-set}

@@ -1,5 +1,4 @@
 -- `queues::bytes_of` meets its contract. The invariant: the first n bytes are the numbers of the first n links. Assumes nothing.
-use Prim.Native.Nat.{◌-◌}
 use Rattle.queues.proofs.bytes_of.Goals as goal
 use Rattle.queues.proofs.bytes_of.Invariants.{nodes}
 use Rattle.queues.specs.Queue.{num}

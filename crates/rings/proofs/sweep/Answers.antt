@@ -1,6 +1,5 @@
 -- `rings::sweep` meets its contract. The loop's invariant: the rings of the queues below q are walked.
 -- Assumes nothing.
-use Prim.Native.Nat.{◌-◌}
 use Rattle.lists.specs.Lists.{put}
 use Rattle.rings.proofs.Walks.{walked_none, walked_on, walked_broken}
 use Rattle.rings.proofs.sweep.Goals as goal

@@ -1,10 +1,7 @@
 -- `rows::table_of` meets its contract. The invariant: the rows of the first i processes are made. Assumes nothing.
-use Prim.Native.Nat.{◌-◌}
 use Rattle.plain.specs.Sizes.{processes}
 use Rattle.rows.proofs.Rows.{shows, made}
 use Rattle.rows.proofs.table_of.Goals as goal
-use Rattle.rows.specs.Places.{spot_from}
-use Rattle.rows.specs.Rows.{row_with}
 use mathlib.Core.Path.{◌≡◌, refl}
 use native.Mathlib.Numerals.{add-one}
 use native.Mathlib.Omega.{arith}

@@ -1,6 +1,6 @@
 -- `seats::ready_word` meets its contract. The loop's invariant: w has the bits of the classes below c.
 -- Assumes nothing.
-use Prim.Native.Nat.{◌+◌, ◌-◌}
+use Prim.Native.Nat.{◌+◌}
 use Rattle.bits.specs.Word.{word}
 use Rattle.plain.specs.Sizes.{processes, classes}
 use Rattle.queues.specs.Queue.{num}

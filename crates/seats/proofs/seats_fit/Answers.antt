@@ -1,6 +1,5 @@
 -- `seats::seats_fit` meets its contract. The loop's invariant: the answer says whether the seat of each process below p fits.
 -- Assumes nothing.
-use Prim.Native.Nat.{◌-◌}
 use Rattle.bits.specs.Word.{bits}
 use Rattle.rings.proofs.Decisions.{decides_as, decides_more}
 use Rattle.seats.proofs.Everyone.{all_seats, each-asked, runner-used}

@@ -1,5 +1,4 @@
 -- `stock::all_empty` meets its contract. The invariant: the answer says whether every hand below p has 0. Assumes nothing.
-use Prim.Native.Nat.{◌-◌}
 use Rattle.boxes.specs.Box.{num}
 use Rattle.rings.proofs.Decisions.{decides_as, decides_eqb, decides_more}
 use Rattle.rings.proofs.Units.{entry}

@@ -1,5 +1,5 @@
 -- `stock::buffers_fit` meets its contract. The invariant: the answer says whether every buffer below b fits. Assumes nothing.
-use Prim.Native.Nat.{ℕ, ◌-◌}
+use Prim.Native.Nat.{ℕ}
 use Rattle.rings.proofs.Decisions.{decides_as, decides_more}
 use Rattle.stock.proofs.buffers_fit.Goals as goal
 use Rattle.stock.specs.Tests.{BufferFits}

@@ -1,5 +1,5 @@
 -- `stock::few` meets its contract. The invariant: no mailbox below m holds too many. Assumes nothing.
-use Prim.Native.Nat.{ℕ, ◌+◌, ◌<◌, ◌-◌}
+use Prim.Native.Nat.{ℕ, ◌+◌, ◌<◌}
 use Rattle.habits.proofs.Laws.{inside}
 use Rattle.habits.specs.Tables.{capacity_in}
 use Rattle.lists.proofs.Laws.{le?}
@@ -11,7 +11,7 @@ use Rattle.stock.proofs.few.Goals as goal
 use borrow.Author.Count.{below_more}
 use borrow.Author.Rules.{rules}
 use lib.ListN.{length, get_or, get_or-eq_default}
-use mathlib.Core.Bool.{false, true≢false}
+use mathlib.Core.Bool.{true≢false}
 use mathlib.Core.List.{List}
 use mathlib.Core.Logic.{⊎_elim}
 use mathlib.Core.Path.{◌≡◌, sym, ap, ◌∙◌}

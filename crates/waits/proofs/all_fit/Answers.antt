@@ -1,5 +1,4 @@
 -- `waits::all_fit` meets its contract. Assumes nothing.
-use Prim.Native.Nat.{◌-◌}
 use Rattle.waits.proofs.Waiting.{one_more, not_all}
 use Rattle.waits.proofs.all_fit.Goals as goal
 use borrow.Author.Rules.{rules}

@@ -1,6 +1,6 @@
 -- `answers::area::put` meets its contract. The loop's invariant: the first `i` bytes are laid over the area.
 -- Assumes nothing.
-use Prim.Native.Nat.{ℕ, ◌-◌}
+use Prim.Native.Nat.{ℕ}
 use Rattle.answers.proofs.AreaLaws.{written_none, written_all, laid-byte}
 use Rattle.answers.proofs.area.put.Goals as goal
 use lib.ListN.{set, get_or, length-set}

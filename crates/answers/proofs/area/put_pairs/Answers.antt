@@ -1,6 +1,6 @@
 -- `answers::area::put_pairs` meets its contract. The loop's invariant: the pairs of the first `i` bytes are laid over the area.
 -- Assumes nothing.
-use Prim.Native.Nat.{ℕ, ◌+◌, ◌-◌, ◌/◌, ◌%◌}
+use Prim.Native.Nat.{ℕ, ◌+◌, ◌/◌, ◌%◌}
 use Rattle.answers.proofs.AreaLaws.{laid_pair}
 use Rattle.answers.proofs.area.put_pairs.Goals as goal
 use Rattle.answers.specs.Answer.{hex_of}

@@ -1,6 +1,6 @@
 -- `answers::area::put_with_pairs` meets its contract.
 -- Assumes nothing.
-use Prim.Native.Nat.{◌+◌, ◌-◌, ◌≤◌}
+use Prim.Native.Nat.{◌-◌, ◌≤◌}
 use Rattle.answers.proofs.AreaLaws.{written_none, written_all, written_fits, laid_behind, pairs-length}
 use Rattle.answers.proofs.area.put_with_pairs.Goals as goal
 use Rattle.answers.specs.Answer.{hex_pairs}

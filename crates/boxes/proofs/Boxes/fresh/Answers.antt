@@ -1,5 +1,5 @@
 -- `boxes::Boxes::fresh` meets its contract. The invariant: the first i entries are 0 to i - 1. Assumes nothing.
-use Prim.Native.Nat.{◌-◌, ◌+◌}
+use Prim.Native.Nat.{◌+◌}
 use Rattle.boxes.proofs.Boxes.fresh.Goals as goal
 use Rattle.boxes.specs.Box.{buffers, mailboxes, num, tables_of}
 use Rattle.rings.proofs.Units.{own-more, own-all}

@@ -1,5 +1,4 @@
 -- `chains::singles::all_single` meets its contract. The invariant: the answer says it of every buffer below b. Assumes nothing.
-use Prim.Native.Nat.{◌-◌}
 use Rattle.bits.specs.Word.{bits}
 use Rattle.chains.proofs.singles.all_single.Goals as goal
 use Rattle.chains.specs.Chained.{Single}

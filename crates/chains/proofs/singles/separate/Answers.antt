@@ -1,5 +1,4 @@
 -- `chains::singles::separate` meets its contract. The invariant: the answer says whether every buffer below b links to itself. Assumes nothing.
-use Prim.Native.Nat.{◌-◌}
 use Rattle.chains.proofs.singles.separate.Goals as goal
 use Rattle.chains.specs.Led.{after}
 use Rattle.chains.specs.Links.{num}

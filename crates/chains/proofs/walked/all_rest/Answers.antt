@@ -1,5 +1,4 @@
 -- `chains::walked::all_rest` meets its contract. The invariant: the answer says whether every free one below b links to itself. Assumes nothing.
-use Prim.Native.Nat.{◌-◌}
 use Rattle.bits.specs.Word.{bits}
 use Rattle.chains.proofs.walked.all_rest.Goals as goal
 use Rattle.chains.specs.Chained.{Alone}

@@ -1,5 +1,4 @@
 -- `chains::walked::bytes_of` meets its contract. The invariant: the first b bytes are the numbers of the first b links. Assumes nothing.
-use Prim.Native.Nat.{◌-◌}
 use Rattle.bits.specs.Word.{width}
 use Rattle.chains.proofs.walked.bytes_of.Goals as goal
 use Rattle.chains.specs.Links.{num}

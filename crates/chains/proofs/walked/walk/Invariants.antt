@@ -1,5 +1,5 @@
 -- `chains::walked::walk` meets its contract. The invariant: what the rest of the walk gives from here, the whole gives from b. Assumes nothing.
-use Prim.Native.Nat.{ℕ, suc, ◌-◌, ◌^◌, ◌<◌}
+use Prim.Native.Nat.{ℕ, suc, ◌^◌, ◌<◌}
 use Rattle.bits.specs.Word.{bits, width}
 use Rattle.chains.proofs.walked.walk.Given as goal
 use Rattle.chains.specs.Chained.{Walked}

@@ -1,5 +1,4 @@
 -- `chains::walked::walks` meets its contract. The invariant: the messages at the buffers below b are walked. Assumes nothing.
-use Prim.Native.Nat.{◌-◌}
 use Rattle.bits.specs.Word.{bits, width}
 use Rattle.chains.proofs.Reading.{passed_none, passed_on, passed_stuck}
 use Rattle.chains.proofs.walked.walks.Goals as goal

@@ -1,5 +1,5 @@
 -- `image::get::bids` meets its contract. The invariant: the first i buffers are got. Assumes nothing.
-use Prim.Native.Nat.{◌+◌, ◌-◌}
+use Prim.Native.Nat.{◌+◌}
 use Rattle.image.proofs.Areas.{has_room, no_got, got-one, got-more, got-all}
 use Rattle.image.proofs.get.bids.Goals as goal
 use Rattle.image.specs.Image.{bid}

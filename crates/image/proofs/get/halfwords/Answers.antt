@@ -1,5 +1,5 @@
 -- `image::get::halfwords` meets its contract. The invariant: the first i numbers are got. Assumes nothing.
-use Prim.Native.Nat.{◌+◌, ◌-◌, ◌*◌}
+use Prim.Native.Nat.{◌+◌, ◌*◌}
 use Rattle.image.proofs.Areas.{has_room, no_got, got_two, got-more, got-all}
 use Rattle.image.proofs.get.halfwords.Goals as goal
 use Rattle.image.specs.Bytes.{le}

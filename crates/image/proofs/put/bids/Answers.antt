@@ -1,5 +1,5 @@
 -- `image::put::bids` meets its contract. The invariant: the first i buffers are put. Assumes nothing.
-use Prim.Native.Nat.{◌+◌, ◌-◌, ◌<◌}
+use Prim.Native.Nat.{◌+◌, ◌<◌}
 use Rattle.image.proofs.Areas.{has_room, no_put, put_none, put_one, put_more, put_all}
 use Rattle.image.proofs.put.bids.Goals as goal
 use Rattle.image.specs.Image.{bid}

@@ -1,5 +1,5 @@
 -- `image::put::halfwords` meets its contract. The invariant: the first i numbers are put. Assumes nothing.
-use Prim.Native.Nat.{◌+◌, ◌-◌, ◌*◌}
+use Prim.Native.Nat.{◌+◌, ◌*◌}
 use Rattle.image.proofs.Areas.{has_room, no_put, put_none, put_two, put_more, put_all}
 use Rattle.image.proofs.put.halfwords.Goals as goal
 use Rattle.image.specs.Bytes.{le}

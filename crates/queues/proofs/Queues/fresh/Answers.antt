@@ -1,5 +1,5 @@
 -- `queues::Queues::fresh` meets its contract. The invariant: the first i entries are 0 to i - 1. Assumes nothing.
-use Prim.Native.Nat.{◌-◌, ◌+◌}
+use Prim.Native.Nat.{◌+◌}
 use Rattle.queues.proofs.Queues.fresh.Goals as goal
 use Rattle.queues.specs.Queue.{processes, queues, num, tables_of}
 use Rattle.rings.proofs.Units.{own-more, own-all}

@@ -1,5 +1,4 @@
 -- `rows::spots::sweep` meets its contract. The invariant: the first i queues are swept. Assumes nothing.
-use Prim.Native.Nat.{◌-◌}
 use Rattle.rows.proofs.Places.{swept_none, swept-more}
 use Rattle.rows.proofs.spots.sweep.Goals as goal
 use mathlib.Core.Path.{◌≡◌, sym, ◌∙◌}

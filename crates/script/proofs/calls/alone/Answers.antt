@@ -1,10 +1,7 @@
 -- `script::calls::alone` meets its contract.
 -- Assumes nothing.
-use Prim.Native.Nat.{ℕ}
 use Rattle.script.proofs.calls.alone.Goals as goal
-use Rattle.script.specs.Grammar.{beside, alone}
-use lib.ListN.{drop}
-use mathlib.Core.Path.{◌≡◌, sym, ◌∙◌}
+use mathlib.Core.Path.{sym, ◌∙◌}
 
 pub returns-then-is_word : goal.returns-then-is_word
 returns-then-is_word c = rw (sym c.is_word.ensures ∙ c.if-is_word.true)

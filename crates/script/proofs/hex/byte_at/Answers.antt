@@ -1,12 +1,10 @@
 -- `script::hex::byte_at` meets its contract.
 -- Assumes nothing.
-use Prim.Native.Nat.{ℕ}
 use Rattle.script.proofs.HexLaws.{pair_low}
 use Rattle.script.proofs.NumberLaws.{number_none, number_some}
 use Rattle.script.proofs.hex.byte_at.Goals as goal
 use Rattle.script.specs.Promises.{pair_at}
 use lib.ListN.{drop}
-use mathlib.Core.List.{List}
 use mathlib.Core.Option.{some}
 use mathlib.Core.Path.{◌≡◌}
 use native.Mathlib.Omega.{arith}

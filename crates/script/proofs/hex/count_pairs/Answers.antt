@@ -1,6 +1,5 @@
 -- `script::hex::count_pairs` meets its contract. The loop's invariant, `Counted`: the pairs before `at` spell bytes.
 -- Assumes nothing.
-use Prim.Native.Nat.{◌-◌}
 use Rattle.script.proofs.HexLaws.{counted_none, counted-bad, counted-more, counted-all}
 use Rattle.script.proofs.NumberLaws.{number_none, number_some}
 use Rattle.script.proofs.hex.count_pairs.Goals as goal

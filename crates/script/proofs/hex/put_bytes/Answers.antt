@@ -1,6 +1,6 @@
 -- `script::hex::put_bytes` meets its contract. The loop's invariant: the first `i` bytes are laid over the area.
 -- Assumes nothing.
-use Prim.Native.Nat.{ℕ, ◌-◌}
+use Prim.Native.Nat.{ℕ}
 use Rattle.answers.proofs.AreaLaws.{written_none, written_all, laid-byte}
 use Rattle.script.proofs.HexLaws.{spelled-length, spelled_at}
 use Rattle.script.proofs.hex.put_bytes.Goals as goal

@@ -1,6 +1,5 @@
 -- `script::numbers::read_number` meets its contract. The loop's invariant: the number is `v` with the digits from `i` on.
 -- Assumes nothing.
-use Prim.Native.Nat.{◌-◌}
 use Rattle.script.proofs.NumberLaws.{number_empty, number_of_lem, digit-bad, digit_good, number-done}
 use Rattle.script.proofs.numbers.read_number.Goals as goal
 use Rattle.script.specs.Promises.{number_of}

@@ -1,6 +1,5 @@
 -- `script::words::first_space` meets its contract. The loop's invariant: the first space of the whole is the first of what is left, counted from `i`.
 -- Assumes nothing.
-use Prim.Native.Nat.{◌-◌}
 use Rattle.script.proofs.WordLaws.{space_here, space-later, space_none}
 use Rattle.script.proofs.words.first_space.Goals as goal
 use native.Mathlib.Omega.{arith}

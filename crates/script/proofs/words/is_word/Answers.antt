@@ -1,6 +1,5 @@
 -- `script::words::is_word` meets its contract. The loop's invariant: the two words are the same if what is left of both is.
 -- Assumes nothing.
-use Prim.Native.Nat.{◌-◌}
 use Rattle.script.proofs.WordLaws.{same-later, same_not, same_end, same_long}
 use Rattle.script.proofs.words.is_word.Goals as goal
 use mathlib.Core.Path.{refl, sym, ◌∙◌}

@@ -1,6 +1,5 @@
 -- `wording::page::lay_rows` meets its contract. The loop's invariant: the lines of the first `i` processes stand behind what was there.
 -- Assumes nothing.
-use Prim.Native.Nat.{◌-◌}
 use Rattle.names.specs.Counts.{count_in}
 use Rattle.plain.specs.Names.{name}
 use Rattle.plain.specs.Sizes.{processes}

@@ -1,6 +1,5 @@
 -- `wording::page::unused_in` meets its contract. The loop's invariant: those unused among the first `i` are counted.
 -- Assumes nothing.
-use Prim.Native.Nat.{◌-◌}
 use Rattle.lists.specs.Lists.{total}
 use Rattle.plain.specs.Sizes.{processes}
 use Rattle.wording.proofs.PageLaws.{unused_next, one_at_most}

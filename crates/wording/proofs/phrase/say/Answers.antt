@@ -1,6 +1,6 @@
 -- `wording::phrase::say` meets its contract. The loop's invariant: the first `i` bytes of the piece are said.
 -- Assumes nothing.
-use Prim.Native.Nat.{ℕ, ◌-◌}
+use Prim.Native.Nat.{ℕ}
 use Rattle.wording.proofs.PhraseLaws.{more_none, more_next}
 use Rattle.wording.proofs.phrase.say.Goals as goal
 use Rattle.wording.specs.Promises.{room, so_far, more}
