@@ -17,6 +17,7 @@ mod layout;
 mod put;
 
 // The kernel whose image the area is.
+#[inline(never)]
 pub fn read(area: &[u8]) -> Kernel
     ensures { Read area.now result }
 {

@@ -165,6 +165,7 @@ impl Kernel {
     }
 
     // What is read off the state before any call is judged.
+    #[inline(never)]
     pub fn facts(self) -> Facts
         ensures { Gathered self result }
     {

@@ -22,6 +22,7 @@ pub(crate) struct Fullness {
 
 impl Kernel {
     // Whether mailbox m holds as many messages as it takes.
+    #[inline(never)]
     fn is_full(self, m: u32) -> bool
         ensures { result ≡ is_full_at self m }
     {

@@ -238,6 +238,7 @@ impl Mail {
     }
 
     // A message of n bytes takes its buffers for mailbox m: w, the first who waits there, gets it in hand; where w is no process, it is queued last.
+    #[inline(never)]
     pub fn deliver(self, m: u32, w: Pid, n: u16) -> Mail
         ensures { numbers result ≡ delivered (numbers self) m w.0 n }
     {
@@ -261,6 +262,7 @@ impl Mail {
     }
 
     // What a send to mailbox m finds: where `drops` holds, its oldest message is dropped first.
+    #[inline(never)]
     pub fn relieve(self, m: u32, drops: bool) -> Mail
         ensures { numbers result ≡ relieved (numbers self) m drops }
     {
