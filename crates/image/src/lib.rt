@@ -59,6 +59,29 @@ pub fn write(area: &mut [u8], k: Kernel)
     put::settings(area, settings);
 }
 
+// The mail of a kernel whose every field is zero. It is no part of the code of its caller, where LLVM would make a call of `memset` of so many zeros.
+#[inline(never)]
+fn blank_mail() -> Mail
+    ensures { result ≡ blank.mail }
+{
+    let box_links = [Bid(0); layout::BOX_NODES];
+    let boxes = Boxes {
+        next: box_links,
+        prev: box_links,
+    };
+    let hand = [Bid(0); PROCESSES];
+    let length = [0u16; BUFFERS];
+    let chain = [Bid(0); BUFFERS];
+    Mail {
+        boxes,
+        hand,
+        full: Pids(0),
+        length,
+        free: Bids(0),
+        chain,
+    }
+}
+
 // Every field is zero.
 fn blank() -> Kernel
     ensures { result ≡ blank }
@@ -77,22 +100,7 @@ fn blank() -> Kernel
         ready: 0,
         unused: Pids(0),
     };
-    let box_links = [Bid(0); layout::BOX_NODES];
-    let boxes = Boxes {
-        next: box_links,
-        prev: box_links,
-    };
-    let hand = [Bid(0); PROCESSES];
-    let length = [0u16; BUFFERS];
-    let chain = [Bid(0); BUFFERS];
-    let mail = Mail {
-        boxes,
-        hand,
-        full: Pids(0),
-        length,
-        free: Bids(0),
-        chain,
-    };
+    let mail = blank_mail();
     let count = [0u16; SEMAPHORES];
     let births = [0u8; PROCESSES];
     let each = [0u8; MAILBOXES];
