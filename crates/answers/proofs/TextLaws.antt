@@ -1,30 +1,18 @@
 -- Laws of what is written: a text with one byte more in front, and the digits of a number from its last.
 -- Assumes nothing.
-use Prim.Native.Nat.{ℕ, zero, suc, ◌+◌, ◌-◌, ◌/◌, ◌%◌, ◌^◌, ◌≤◌, ◌<◌}
+use Prim.Native.Nat.{ℕ, zero, suc, ◌+◌, ◌/◌, ◌%◌, ◌^◌, ◌≤◌, ◌<◌}
 use mathlib.Core.Path.{◌≡◌, refl, ap, ◌∙◌}
 use mathlib.Core.Bool.{Bool, true, false}
 use mathlib.Core.List.{List, [], ◌∷◌, ◌++◌, append_assoc, append-nil}
 use native.Mathlib.Omega.{arith}
-use native.Mathlib.Numerals.{add-one}
-use lib.ListN.{length, set, take, drop, length-append, length-drop, length-set}
-use lib.Seq.{take_all, drop-cons, get_or-set_same, drop-set-lt}
+use lib.ListN.{length, length-append}
 use lib.Dec.{ltb, eqb, eqb-suc-zero}
 use borrow.Author.Tests.{ltb-true, ltb-false, lt-ltb, le-ltb}
 use Rattle.std.specs.Prelude.{if◌then◌else◌}
 use Rattle.plain.specs.Calls.{Answer}
 use Rattle.answers.specs.Answer.{digit, digits_of, decimal, line, read_line, hex_pairs}
-use Rattle.answers.specs.Promises.{text_room, so_far, before_pairs}
+use Rattle.answers.specs.Promises.{text_room, before_pairs}
 use Rattle.answers.proofs.AreaLaws.{pairs-length}
-use Rattle.answers.specs.declared.text.Text.{Text}
-
-pub front_shown : (l : List ℕ) (i n b : ℕ) → i + 1 ≡ n → i < length l → drop i (set l i b) ≡ b ∷ drop n l
-front_shown l i n b e h =
-    let inside : i < length (set l i b) = rw (length-set l i b) h in
-    rw (drop-cons (set l i b) i 0 inside, get_or-set_same l i b 0 h, drop-set-lt (suc i) l i b (omega arith), ← e, add-one)
-
--- the bytes from at on, as the code takes them
-pub text_part : (t : Text) (l : List ℕ) → length t.bytes ≡ text_room → so_far t ≡ l → take (text_room - t.at) (drop t.at t.bytes) ≡ l
-text_part t l size e = take_all (text_room - t.at) (so_far t) (simp length-drop (omega arith)) ∙ e
 
 -- ---- digits
 

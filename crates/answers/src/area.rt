@@ -9,22 +9,16 @@ pub fn put(out: &mut [u8], src: &[u8]) -> usize
     if out.len() < src.len() {
         return 0;
     }
-    let mut i = 0;
-    while i < src.len() {
-        out[i] = src[i];
-        i += 1;
-    }
-    i
+    out[..src.len()].copy_from_slice(src);
+    src.len()
 }
 
+// Printed by hand, as the decimals are in text: std's `{:x}` goes through a `fmt::Write`, and an area that is lent is none.
 fn hex_of(d: u8) -> u8
     requires { d < 16 }
     ensures { result ≡ hex_of d }
 {
-    if d < 10 {
-        return b'0' + d;
-    }
-    b'a' + (d - 10)
+    if d < 10 { b'0' + d } else { b'a' + (d - 10) }
 }
 
 fn put_pair(out: &mut [u8], at: usize, b: u8)
@@ -39,12 +33,8 @@ fn put_pairs(out: &mut [u8], message: &[u8])
     requires { length message.now + length message.now ≤ length out.old }
     ensures { out.new ≡ laid (hex_pairs message.now) out.old }
 {
-    let mut i = 0;
-    let mut at = 0;
-    while i < message.len() {
-        put_pair(out, at, message[i]);
-        i += 1;
-        at += 2;
+    for (i, b) in message.iter().enumerate() {
+        put_pair(out, 2 * i, *b);
     }
 }
 

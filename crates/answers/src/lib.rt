@@ -4,9 +4,7 @@
 pub mod area;
 mod text;
 
-ghost use Rattle.std.specs.Prelude.{◌≤◌};
 ghost use Rattle.answers.specs.Answer.{answer, bad, decimal, line, read_line};
-ghost use Rattle.answers.specs.Promises.{text_room, so_far};
 ghost use Rattle.answers.specs.Written.{Written};
 
 use crate::text::Text;
@@ -22,37 +20,26 @@ pub fn put_bad(out: &mut [u8]) -> usize
     area::put(out, b"bad")
 }
 
-fn put_text(out: &mut [u8], t: Text) -> usize
-    requires { t.at ≤ text_room }
-    ensures { Written (so_far t) out.old out.new result }
-{
-    let bytes = t.bytes;
-    let at = t.at;
-    area::put(out, &bytes[at..])
-}
-
 pub fn put_decimal(out: &mut [u8], n: u32) -> usize
     ensures { Written (decimal n) out.old out.new result }
 {
-    put_text(out, text::decimal(text::nothing(), n))
+    let mut digits = Text::new();
+    digits.decimal(n);
+    area::put(out, digits.as_bytes())
 }
 
 pub fn put_line(out: &mut [u8], code: u32, number: u32, running: u32) -> usize
     ensures { Written (line (answer code number running)) out.old out.new result }
 {
-    put_text(out, text::numbers(text::nothing(), code, number, running))
+    let mut line = Text::new();
+    line.numbers(code, number, running);
+    area::put(out, line.as_bytes())
 }
 
 pub fn put_read_line(out: &mut [u8], code: u32, number: u32, running: u32, message: &[u8]) -> usize
     ensures { Written (read_line (answer code number running) message.now) out.old out.new result }
 {
-    let t = text::numbers(
-        text::before_pairs(message.len() == 0),
-        code,
-        number,
-        running,
-    );
-    let bytes = t.bytes;
-    let at = t.at;
-    area::put_with_pairs(out, &bytes[at..], message)
+    let mut text = Text::before_pairs(message.len() == 0);
+    text.numbers(code, number, running);
+    area::put_with_pairs(out, text.as_bytes(), message)
 }

@@ -1,45 +1,25 @@
-// A short text, made from its end: it is the bytes from `at` on. Assumes that there is room in front, as each `requires` says.
-ghost use Rattle.std.specs.Prelude.{◌≡◌, [], ◌∷◌, ◌++◌, ◌+◌, ◌%◌, ◌≤◌, ◌<◌};
+// A short text, made from its end. Assumes that there is room in front, as each `requires` says.
+ghost use Rattle.std.specs.Prelude.{ℕ, List, ◌≡◌, [], ◌∷◌, ◌++◌, ◌+◌, ◌%◌, ◌≤◌, ◌<◌, length, drop};
 ghost use Rattle.answers.specs.Ascii.{space};
 ghost use Rattle.answers.specs.Answer.{answer, decimal, digit, line};
-ghost use Rattle.answers.specs.Promises.{text_room, so_far, before_pairs};
+ghost use Rattle.answers.specs.Promises.{text_room, before_pairs};
 
 use crate::TEXT_ROOM;
+use std::marker::Model;
 
-#[derive(Clone, Copy)]
+// The bytes from `at` on. A buffer with a place beside it: there is no heap.
+#[derive(Drop)]
 pub(crate) struct Text {
-    pub bytes: [u8; TEXT_ROOM],
-    pub at: usize,
+    bytes: [u8; TEXT_ROOM],
+    at: usize,
 }
 
-pub(crate) fn nothing() -> Text
-    ensures { (so_far result ≡ []) × (result.at ≡ text_room) }
-{
-    let bytes = [0; TEXT_ROOM];
-    Text {
-        bytes,
-        at: TEXT_ROOM,
-    }
-}
+impl Model for Text {
+    ghost Value = { List ℕ };
 
-fn front(t: Text, b: u8) -> Text
-    requires { (0 < t.at) × (t.at ≤ text_room) }
-    ensures { (so_far result ≡ b ∷ so_far t) × (result.at + 1 ≡ t.at) }
-{
-    let mut bytes = t.bytes;
-    let at = t.at - 1;
-    bytes[at] = b;
-    Text { bytes, at }
-}
+    ghost view = { λ t. drop t.at t.bytes };
 
-// What stands between the numbers and the pairs in the line of a read: a space, and a dash where there are none.
-pub(crate) fn before_pairs(none: bool) -> Text
-    ensures { (so_far result ≡ before_pairs none) × (32 ≤ result.at) × (result.at ≤ text_room) }
-{
-    if none {
-        return front(front(nothing(), b'-'), b' ');
-    }
-    front(nothing(), b' ')
+    ghost invariant = { λ t. t.at ≤ text_room };
 }
 
 fn last_digit(n: u32) -> u8
@@ -48,29 +28,70 @@ fn last_digit(n: u32) -> u8
     b'0' + (n % 10) as u8
 }
 
-pub(crate) fn decimal(t: Text, n: u32) -> Text
-    requires { (10 ≤ t.at) × (t.at ≤ text_room) }
-    ensures { (so_far result ≡ decimal n ++ so_far t) × (t.at ≤ result.at + 10) × (result.at ≤ t.at) }
-{
-    let mut text = front(t, last_digit(n));
-    let mut v = n / 10;
-    while 0 < v {
-        text = front(text, last_digit(v));
-        v = v / 10;
+impl Text {
+    pub(crate) fn new() -> Text
+        ensures { result ≡ [] }
+    {
+        Text {
+            bytes: [0; TEXT_ROOM],
+            at: TEXT_ROOM,
+        }
     }
-    text
-}
 
-fn spaced(t: Text, n: u32) -> Text
-    requires { (11 ≤ t.at) × (t.at ≤ text_room) }
-    ensures { (so_far result ≡ space ∷ (decimal n ++ so_far t)) × (t.at ≤ result.at + 11) × (result.at ≤ t.at) }
-{
-    front(decimal(t, n), b' ')
-}
+    pub(crate) fn as_bytes(&self) -> &[u8]
+        ensures { result.now ≡ self.now }
+    {
+        &self.bytes[self.at..]
+    }
 
-pub(crate) fn numbers(t: Text, code: u32, number: u32, running: u32) -> Text
-    requires { (32 ≤ t.at) × (t.at ≤ text_room) }
-    ensures { (so_far result ≡ line (answer code number running) ++ so_far t) × (result.at ≤ text_room) }
-{
-    decimal(spaced(spaced(t, running), number), code)
+    fn front(&mut self, b: u8)
+        requires { length self.old < text_room }
+        ensures { self.new ≡ b ∷ self.old }
+    {
+        self.at -= 1;
+        self.bytes[self.at] = b;
+    }
+
+    // What stands between the numbers and the pairs in the line of a read: a space, and a dash where there are none.
+    pub(crate) fn before_pairs(none: bool) -> Text
+        ensures { result ≡ before_pairs none }
+    {
+        let mut text = Text::new();
+        if none {
+            text.front(b'-');
+        }
+        text.front(b' ');
+        text
+    }
+
+    pub(crate) fn decimal(&mut self, n: u32)
+        requires { length self.old + 10 ≤ text_room }
+        ensures text { self.new ≡ decimal n ++ self.old }
+        ensures within { length self.new ≤ length self.old + 10 }
+    {
+        self.front(last_digit(n));
+        let mut v = n / 10;
+        while 0 < v {
+            self.front(last_digit(v));
+            v /= 10;
+        }
+    }
+
+    fn spaced(&mut self, n: u32)
+        requires { length self.old + 11 ≤ text_room }
+        ensures text { self.new ≡ space ∷ (decimal n ++ self.old) }
+        ensures within { length self.new ≤ length self.old + 11 }
+    {
+        self.decimal(n);
+        self.front(b' ');
+    }
+
+    pub(crate) fn numbers(&mut self, code: u32, number: u32, running: u32)
+        requires { length self.old + 32 ≤ text_room }
+        ensures { self.new ≡ line (answer code number running) ++ self.old }
+    {
+        self.spaced(running);
+        self.spaced(number);
+        self.decimal(code);
+    }
 }

@@ -5,9 +5,9 @@ use mathlib.Core.Path.{◌≡◌, refl, sym, ap, ◌∙◌}
 use mathlib.Core.Bool.{Bool, true, false}
 use mathlib.Core.Logic.{◌≢◌, ⊎_elim}
 use native.Mathlib.Omega.{arith}
-use native.Mathlib.Nat.{pow-suc, one-mul, div-one, div-eq_of_lt, div-eq_of_lt-le}
+use native.Mathlib.Nat.{pow-suc, one-mul, div-one, div-eq_of_lt, div-eq_of_lt-le, mod-eq_of_lt}
 use native.Mathlib.Numerals.{add-one}
-use lib.Bits.{bit_or, bit_and, or_step, or_zero_r, or_add_and, and_le_l, and_mask}
+use lib.Bits.{bit_or, bit_and, and_step, or_step, or_zero_r, and_mask}
 use lib.Count.{count_leading_zeros, leading_top, count_trailing_zeros, under}
 use lib.Dec.{eqb}
 use lib.Pow.{pow_mono, shl_exact, shr-shr}
@@ -165,16 +165,23 @@ or_on (suc n) (suc i) t u h on rest =
     let above = or_on n i (λ j. t (suc j)) (λ j. u (suc j)) (omega arith) on (λ j d. rest (suc j) (omega arith)) in
     rw (or_step, rest 0 (omega arith), high, low, (double i).0, (double i).1, above) (omega (arith, bit_le (t 0)))
 
--- u is t with i on, where t has i off
-add-on : (n i : ℕ) (t u : ℕ → Bool) → i < n → t i ≡ false → u i ≡ true → ((j : ℕ) → j ≢ i → u j ≡ t j) → word n t + 2 ^ i ≡ word n u
+-- u is t with i off
+and_off : (n i : ℕ) (t u : ℕ → Bool) → i < n → u i ≡ false → ((j : ℕ) → j ≢ i → u j ≡ t j) → bit_and (word n t) (2 ^ n - 1 - 2 ^ i) ≡ word n u
 unfolding word
-add-on zero i t u h off on rest = absurd (omega arith)
-add-on (suc n) zero t u h off on rest =
-    let above = word_same n (λ j. u (suc j)) (λ j. t (suc j)) (λ j b. rest (suc j) (omega arith)) in
-    rw (off, on) (omega arith)
-add-on (suc n) (suc i) t u h off on rest =
-    let above = add-on n i (λ j. t (suc j)) (λ j. u (suc j)) (omega arith) off on (λ j d. rest (suc j) (omega arith)) in
-    rw (rest 0 (omega arith)) (omega (arith, pow-suc 2 i))
+and_off zero i t u h off rest = absurd (omega arith)
+and_off (suc n) zero t u h off rest =
+    let same = word_same n (λ j. u (suc j)) (λ j. t (suc j)) (λ j b. rest (suc j) (omega arith)) in
+    let mask : ((2 ^ suc n - 1 - 1) / 2 ≡ 2 ^ n - 1) × ((2 ^ suc n - 1 - 1) % 2 ≡ 0) = (omega (arith, pow-suc 2 n), omega (arith, pow-suc 2 n)) in
+    let above : bit_and (word n (λ j. t (suc j))) (2 ^ n - 1) ≡ word n (λ j. t (suc j)) =
+    and_mask (word n (λ j. t (suc j))) n ∙ mod-eq_of_lt (word_below n (λ j. t (suc j))) in
+    rw (and_step, off, same, high, low, mask.0, mask.1, above) (omega arith)
+and_off (suc n) (suc i) t u h off rest =
+    let below : 2 ^ suc i ≤ 2 ^ n = pow_mono (omega arith) in
+    let some : 1 ≤ 2 ^ i = pow_mono {i = 0} {j = i} (omega arith) in
+    let mask : ((2 ^ suc n - 1 - 2 ^ suc i) / 2 ≡ 2 ^ n - 1 - 2 ^ i) × ((2 ^ suc n - 1 - 2 ^ suc i) % 2 ≡ 1) =
+    (omega (arith, below, pow-suc 2 n, pow-suc 2 i), omega (arith, below, pow-suc 2 n, pow-suc 2 i)) in
+    let above = and_off n i (λ j. t (suc j)) (λ j. u (suc j)) (omega arith) off (λ j d. rest (suc j) (omega arith)) in
+    rw (and_step, rest 0 (omega arith), high, low, mask.0, mask.1, above) (omega (arith, bit_le (t 0)))
 
 module _ (n w i : ℕ) (fits : w < 2 ^ n) where
   pub put_past : (v : Bool) → n ≤ i → w ≡ word n (put (bits w) i v)
@@ -185,15 +192,10 @@ module _ (n w i : ℕ) (fits : w < 2 ^ n) where
       let e = or_on n i (bits w) (put (bits w) i true) h (put_same (bits w) i true) (put_other (bits w) i true) in
       rw (shifted n i h) (rw (word-bits n w fits) at e)
 
-  pub bit-cleared : i < n → bit_or w (1 * 2 ^ i % 2 ^ n) - 1 * 2 ^ i % 2 ^ n ≡ word n (put (bits w) i false)
+  pub bit-cleared : i < n → bit_and w (2 ^ n - 1 - 1 * 2 ^ i % 2 ^ n) ≡ word n (put (bits w) i false)
   bit-cleared h =
-      let rest : (j : ℕ) → j ≢ i → put (bits w) i true j ≡ put (bits w) i false j = λ j d. put_other (bits w) i true j d ∙ sym (put_other (bits w) i false j d) in
-      let e = add-on n i (put (bits w) i false) (put (bits w) i true) h (put_same (bits w) i false) (put_same (bits w) i true) rest in
-      omega (arith, bit-set h, shifted n i h)
-
--- what was put on can be taken away
-pub or_above : (a b : ℕ) → b ≤ bit_or a b
-or_above a b = omega (arith, or_add_and a b, and_le_l a b)
+      let e = and_off n i (bits w) (put (bits w) i false) h (put_same (bits w) i false) (put_other (bits w) i false) in
+      rw (shifted n i h) (rw (word-bits n w fits) at e)
 
 lowest_from : (n i w : ℕ) → i + count_trailing_zeros n (w / 2 ^ i) ≡ lowest i n (bits w)
 unfolding count_trailing_zeros lowest bits
@@ -208,6 +210,10 @@ lowest_from (suc n) i w = rw (shr-shr w i 1, add-one) (go (w / 2 ^ i % 2) _ (ome
 -- the zeros below the lowest bit that is on are as many as its number
 pub trailing_lowest : (n w : ℕ) → count_trailing_zeros n w ≡ lowest 0 n (bits w)
 trailing_lowest n w = omega (arith, rw div-one at (lowest_from n 0 w))
+
+-- a power of 2 that is in w once is that of the highest bit that is on
+pub highest_power : (n d k w : ℕ) → k < n → 2 ^ k ≤ w → w < 2 ^ suc k → highest n d (bits w) ≡ k
+highest_power n d k w h l u = highest_is n d k (bits w) h (bits-top w k l u) (λ i a b. bits_above (suc k) w i u a)
 
 -- the zeros above the highest bit that is on, that bit and those below it make n
 pub leading_highest : (n d w : ℕ) → 0 < w → w < 2 ^ n → count_leading_zeros n w + suc (highest n d (bits w)) ≡ n

@@ -2,14 +2,15 @@
 // Each reads the image that lies in the state area, makes the kernel's call and writes the next image back.
 #![tactic(auto)]
 
+ghost use Rattle.std.specs.Prelude.{◌≡◌};
 ghost use Rattle.plain.specs.Calls as Plain;
 ghost use Rattle.plain.specs.State.{usual};
-ghost use Rattle.reasons.specs.Reasons.{Explains};
+ghost use Rattle.reasons.specs.Reasons.{given, meant_by, Explains};
 ghost use Rattle.board.specs.Area.{Lies, Plainly, Sends, Reads, Begins, HandedBack};
-ghost use Rattle.board.specs.Reasons.{Reasons};
+ghost use Rattle.board.specs.Reasons.{numbers_or_zeros, Reasons};
 
 use kernel::{Answer, Done, Kernel};
-use reasons::Explained;
+use reasons::{Explained, Numbers, Reason};
 
 // The bytes of a state area.
 pub const SIZE: usize = 540;
@@ -193,18 +194,30 @@ pub fn why(state: &[u8], name: u32) -> Explained
     reasons::why(image::read(state), name)
 }
 
+// The numbers of a reason; where there is none they are zeros.
+fn in_numbers(reason: Option<Reason>) -> Numbers
+    ensures { result ≡ given (numbers_or_zeros (meant_by reason)) }
+{
+    match reason {
+        Some(reason) => reasons::in_numbers(reason),
+        None => Numbers {
+            kind: 0,
+            which: 0,
+            ahead: 0,
+        },
+    }
+}
+
 #[unsafe(no_mangle)]
 pub extern "C" fn csengadrul_why(state: &[u8], name: u32) -> Reasoned
     ensures { Reasons state.now name result }
 {
     let w = why(state, name);
-    let a = w.answer;
-    let reason = w.reason;
-    let n = reasons::in_numbers(reason);
+    let n = in_numbers(w.reason);
     Reasoned {
-        code: a.code,
-        number: a.number,
-        running: a.running,
+        code: w.answer.code,
+        number: w.answer.number,
+        running: w.answer.running,
         kind: n.kind,
         which: n.which,
         ahead: n.ahead,

@@ -1,5 +1,5 @@
-pub mod Arrays
 pub mod Laws
+pub mod Arrays
 pub mod Words
 pub mod Bits
 pub mod Lows

@@ -2,13 +2,15 @@
 -- Assumes nothing.
 use Prim.Native.Nat.{ℕ, zero, suc, ◌+◌, ◌-◌, ◌^◌, ◌≤◌, ◌<◌}
 use mathlib.Core.Path.{◌≡◌, refl, sym, ap, ◌∙◌, subst, fun_ext}
-use mathlib.Core.Bool.{Bool, true, false}
+use mathlib.Core.Bool.{Bool, true, false, true≢false}
 use mathlib.Core.Logic.{◌≢◌, ⊎_elim}
 use mathlib.Core.List.{List, []}
 use native.Mathlib.Omega.{arith}
 use lib.ListN.{length, get_or, get_or-eq_default}
 use lib.Dec.{eqb}
 use borrow.Author.Tests.{eqb-true, eqb-false}
+use Rattle.std.specs.Prelude.{Option, Some, None, IfSome}
+use Rattle.std.specs.Option.{option_eq}
 use Rattle.lists.specs.Lists.{put, one, occurs, total}
 use Rattle.lists.proofs.Laws.{same?, le?, put_same, put_other, one_same, one_other, total-same}
 use Rattle.rings.specs.Decides.{Decides}
@@ -16,51 +18,93 @@ use Rattle.rings.proofs.Decisions.{decides_as}
 use Rattle.bits.specs.Word.{bit, word, bits, width}
 use Rattle.chains.specs.Led.{after, Led, none, last, on}
 use Rattle.chains.specs.Links.{run}
-use Rattle.chains.specs.Chained.{used, Chained, Ends, nil, end, far, Fits, Walked, Alone, at, Passed}
+use Rattle.chains.specs.Chained.{used, Chained, Ends, nil, end, far, Fits, Walked, AllWalked, Alone, at, Passed}
 use Rattle.chains.proofs.Laws.{led_run, run_length}
 use Rattle.chains.proofs.Bits.{on_below, put_bits, zero_off, word_zero}
+use Rattle.chains.proofs.Words.{word_fits}
 
 -- ---- one walk
 
+-- x was to be reached, and is no longer
+less : (s : ℕ → Bool) (x : ℕ) → s x ≡ true → (rest : ℕ → Bool) → ((p : ℕ) → rest p ≡ put s x false p) → (p : ℕ) → bit (rest p) + one x p ≡ bit (s p)
+less s x e rest d p = ⊎_elim
+    (λ (q : x ≡ p). rw (d p, ← q, put_same s x false, e, one_same x))
+    (λ (q : x ≢ p). rw (d p, put_other s x false p (λ z. q (sym z)), one_other x p q) (omega arith))
+    (same? x p)
+
 module _ (t : List ℕ) where
-  pub run-first : (n b : ℕ) → 1 ≤ occurs b (run t (suc n) b)
+  -- where n links lead from b
+  pub spot : ℕ → ℕ → ℕ
+  spot zero b = b
+  spot (suc n) b = spot n (after t b)
+
+  spot_on : (n b : ℕ) → spot (suc n) b ≡ after t (spot n b)
+  unfolding spot
+  spot_on zero b = refl
+  spot_on (suc n) b = spot_on n (after t b)
+
+  run_on : (n b p : ℕ) → occurs p (run t (suc n) b) ≡ occurs p (run t n b) + one (spot n b) p
+  unfolding run spot
+  run_on zero b p = omega arith
+  run_on (suc n) b p = omega (arith, run_on n (after t b) p)
+
+  run-le : (i n b p : ℕ) → i ≤ n → occurs p (run t i b) ≤ occurs p (run t n b)
   unfolding run
-  run-first n b = omega (arith, one_same b)
+  run-le zero n b p h = omega arith
+  run-le (suc i) zero b p h = absurd (omega arith)
+  run-le (suc i) (suc n) b p h = omega (arith, run-le i n (after t b) p (omega arith))
 
-  pub run_on : (n b p : ℕ) → occurs p (run t (suc n) b) ≡ one b p + occurs p (run t n (after t b))
-  unfolding run
-  run_on n b p = refl
+  ends_at : (n b : ℕ) → after t (spot n b) ≡ spot n b → Ends t (suc n) b
+  unfolding spot
+  ends_at zero b e = end e
+  ends_at (suc n) b e = far (ends_at n (after t b) e)
 
-  pub walked_nil : (b : ℕ) (s : ℕ → Bool) → Walked t 0 b s true s
-  unfolding run
-  walked_nil b s = (nil, λ p. omega arith)
+  at_end : (n b : ℕ) → Ends t (suc n) b → after t (spot n b) ≡ spot n b
+  unfolding spot
+  at_end zero b (end e) = e
+  at_end (suc n) b (far e) = at_end n (after t b) e
 
-  module _ (b : ℕ) (s : ℕ → Bool) where
-    pub walked_shut : (n : ℕ) → s b ≡ false → Fits t (suc n) b s → ⊥
-    walked_shut n e f = omega (arith, run-first n b, f.there b, ap bit e)
+  module _ (b : ℕ) (todo : ℕ → Bool) where
+    -- i buffers are reached, the last of them is `last`, x comes next, and the bits of a word are still to be reached
+    pub record Reached (i x last left : ℕ) : Type 0 where
+      pub next : x ≡ spot i b
+      pub behind : last ≡ spot (i - 1) b
+      pub fits : left < 2 ^ width
+      pub sums : (p : ℕ) → bit (bits left p) + occurs p (run t i b) ≡ bit (todo p)
 
-    -- b is still to be reached, and s' is s without b
-    module _ (s' : ℕ → Bool) (e : s b ≡ true) (d : (p : ℕ) → s' p ≡ put s b false p) where
-      pub less : (p : ℕ) → bit (s' p) + one b p ≡ bit (s p)
-      less p = ⊎_elim
-          (λ (q : b ≡ p). rw (d p, ← q, put_same s b false, e, one_same b))
-          (λ (q : b ≢ p). rw (d p, put_other s b false p (λ z. q (sym z)), one_other b p q) (omega arith))
-          (same? b p)
+    module _ (i x last left : ℕ) (r : Reached i x last left) where
+      pub reached_on : bits left x ≡ true → (rest : ℕ) → rest ≡ word width (put (bits left) x false) → (y : ℕ) → y ≡ after t x → Reached (i + 1) y x rest
+      reached_on e rest d y g =
+          let k : i + 1 ≡ suc i = omega arith in
+          let j : suc i - 1 ≡ i = omega arith in
+          let gone = put_bits width left rest x false r.fits (on_below width left x r.fits e) d in
+          rw k (record {
+            next = g ∙ ap (after t) r.next ∙ sym (spot_on i b);
+            behind = r.next ∙ ap (λ (m : ℕ). spot m b) (sym j);
+            fits = word_fits (put (bits left) x false) d;
+            sums = λ p. omega (arith, r.sums p, run_on i b p, ap (λ (z : ℕ). one z p) r.next, less (bits left) x e (bits rest) gone p);
+          })
 
-      pub walked_last : (c : Bool) → c ≡ eqb (after t b) b → Walked t 1 b s c s'
-      unfolding run
-      walked_last true g = (end (eqb-true (after t b) b (sym g)), λ p. omega (arith, less p))
-      walked_last false g = λ f. eqb-false (after t b) b (sym g) (closed f.ends)
+      pub reached_shut : (n : ℕ) → i < n → bits left x ≡ false → Fits t n b todo → ⊥
+      reached_shut n h e f = omega (arith, r.sums x, f.there x, run-le (suc i) n b x (omega arith), run_on i b x, ap (λ (z : ℕ). one z x) r.next, one_same x, ap bit e)
+
+      pub reached_end : x ≡ last → Walked t i b todo (Some left)
+      reached_end e = (go i r.next r.behind, r.sums)
         where
-          closed : Ends t 1 b → after t b ≡ b
-          closed (end h) = h
+          go : (n : ℕ) → x ≡ spot n b → last ≡ spot (n - 1) b → Ends t n b
+          go zero f g = nil
+          go (suc n) f g = let j : suc n - 1 ≡ n = omega arith in ends_at n b (sym (spot_on n b) ∙ sym f ∙ e ∙ g ∙ ap (λ (m : ℕ). spot m b) j)
 
-      pub walked_on : (n : ℕ) (c : Bool) (l : ℕ → Bool) → Walked t (suc n) (after t b) s' c l → Walked t (suc (suc n)) b s c l
-      walked_on n true l w = (far w.0, λ p. omega (arith, less p, w.1 p, run_on (suc n) b p))
-      walked_on n false l w = λ f. w (record { there = λ p. omega (arith, less p, f.there p, run_on (suc n) b p); ends = farther f.ends })
+      pub reached_open : x ≢ last → Fits t i b todo → ⊥
+      reached_open d f = d (go i r.next r.behind f.ends)
         where
-          farther : Ends t (suc (suc n)) b → Ends t (suc n) (after t b)
-          farther (far h) = h
+          go : (n : ℕ) → x ≡ spot n b → last ≡ spot (n - 1) b → Ends t n b → x ≡ last
+          go zero f g h = f ∙ sym g
+          go (suc n) f g h = let j : suc n - 1 ≡ n = omega arith in f ∙ spot_on n b ∙ at_end n b h ∙ sym (g ∙ ap (λ (m : ℕ). spot m b) j)
+
+    pub reached_none : (left : ℕ) → left < 2 ^ width → ((p : ℕ) → bits left p ≡ todo p) → Reached 0 b b left
+    unfolding run spot
+    reached_none left h e = record { next = refl; behind = refl; fits = h; sums = λ p. omega (arith, ap bit (e p)) }
 
 -- ---- lists and walks
 
@@ -107,7 +151,7 @@ module _ (t need : List ℕ) (free : ℕ → Bool) where
   passed_none s e = record { ends = λ j h. absurd (omega arith); sums = λ p. omega (arith, ap bit (e p)) }
 
   module _ (b : ℕ) (s : ℕ → Bool) (P : Passed t need free b s) where
-    pub passed_on : (l : ℕ → Bool) → Walked t (get_or need b 0) b s true l → Passed t need free (b + 1) l
+    pub passed_on : (l : ℕ) → Walked t (get_or need b 0) b s (Some l) → Passed t need free (b + 1) (bits l)
     unfolding total
     passed_on l w = record {
       ends = λ j h. ⊎_elim (λ (e : j ≡ b). rw e w.0) (λ (d : j ≢ b). P.ends j (omega arith)) (same? j b);
@@ -143,30 +187,19 @@ module _ (t need : List ℕ) (free : ℕ → Bool) where
   pub passed_left : (w : ℕ) → w < 2 ^ width → Passed t need free width (bits w) → Chained t need free → w ≡ 0
   passed_left w h P c = word_zero width w h (λ p. omega (arith, P.sums p, chained_whole c p))
 
--- ---- one turn of the walk, as the code takes it: x is still to be reached, s' is s without it, y comes after it
-
-module _ (t : List ℕ) (s x : ℕ) (h : s < 2 ^ width) (e : bits s x ≡ true) (s' : ℕ) (d : s' ≡ word width (put (bits s) x false)) (y : ℕ) (ey : y ≡ after t x) where
-  gone : (p : ℕ) → bits s' p ≡ put (bits s) x false p
-  gone = put_bits width s s' x false h (on_below width s x h e) d
-
-  pub turn_last : (left : ℕ) → left ≡ 0 → Walked t (suc left) x (bits s) (eqb y x) (bits s')
-  turn_last left z = subst (λ (k : ℕ). Walked t (suc k) x (bits s) (eqb y x) (bits s')) (sym z) (walked_last t x (bits s) (bits s') e gone (eqb y x) (ap (λ (k : ℕ). eqb k x) ey))
-
-  pub turn_on : (left : ℕ) → left ≢ 0 → (ok : Bool) (l : ℕ → Bool) → Walked t (suc (left - 1)) y (bits s') ok l → Walked t (suc left) x (bits s) ok l
-  turn_on zero z ok l w = absurd (z refl)
-  turn_on (suc k) z ok l w =
-      let a : suc k - 1 ≡ k = omega arith in
-      let w' = subst (λ (v : ℕ). Walked t (suc v) y (bits s') ok l) a w in
-      walked_on t x (bits s) (bits s') e gone k ok l (subst (λ (v : ℕ). Walked t (suc k) v (bits s') ok l) ey w')
-
 -- ---- the decision
 
-module _ (t need : List ℕ) (free : ℕ → Bool) (w : ℕ) where
-  pub left_over : w < 2 ^ width → w ≢ 0 → Passed t need free width (bits w) → Chained t need free → ⊥
-  left_over h z P c = z (passed_left t need free w h P c)
+module _ (t need : List ℕ) (free : ℕ → Bool) where
+  pub decided : (w : Option ℕ) → IfSome w (λ l. l < 2 ^ width) → AllWalked t need free w → option_eq eqb w (Some 0) ≡ true → length need ≡ width
+      → (r : Bool) → Decides r ((p : ℕ) → p < width → Alone t free p) → Decides r (Chained t need free)
+  decided None h a e k r = absurd (true≢false (sym e))
+  decided (Some l) h a e k r =
+      let z : l ≡ 0 = eqb-true l 0 e in
+      decides_as (Chained t need free) r (λ f. passed_all t need free (subst (λ (x : ℕ). Passed t need free width (bits x)) z a) k f) (λ c. c.1.alone)
 
-  pub decided : (r : Bool) → w ≡ 0 → Passed t need free width (bits w) → length need ≡ width → Decides r ((p : ℕ) → p < width → Alone t free p) → Decides r (Chained t need free)
-  decided r z P k = decides_as (Chained t need free) r (λ a. passed_all t need free (subst (λ (x : ℕ). Passed t need free width (bits x)) z P) k a) (λ c. c.1.alone)
+  pub undecided : (w : Option ℕ) → IfSome w (λ l. l < 2 ^ width) → AllWalked t need free w → option_eq eqb w (Some 0) ≡ false → Chained t need free → ⊥
+  undecided None h a e = a
+  undecided (Some l) h a e = λ c. eqb-false l 0 e (passed_left t need free l h a c)
 
 -- ---- one reading
 

@@ -1,8 +1,8 @@
 -- When a table links the buffers of messages that are known by their first ones: all that are not free, each once, and no other.
 -- Assumes nothing.
-use Rattle.std.specs.Prelude.{ℕ, suc, ◌+◌, ◌≤◌, ◌<◌, ◌≡◌, Bool, true, false, not, ◌&&◌, List, [], ◌∷◌, ◌++◌, length, get_or, ltb}
+use Rattle.std.specs.Prelude.{ℕ, suc, ◌+◌, ◌≤◌, ◌<◌, ◌≡◌, Bool, true, not, ◌&&◌, Option, Some, None, List, [], ◌∷◌, ◌++◌, length, get_or, ltb}
 use Rattle.lists.specs.Lists.{occurs, total}
-use Rattle.bits.specs.Word.{bit, width}
+use Rattle.bits.specs.Word.{bit, bits, width}
 use Rattle.chains.specs.Led.{after, Led}
 use Rattle.chains.specs.Links.{run}
 
@@ -47,10 +47,10 @@ pub record Fits (t : List ℕ) (n b : ℕ) (todo : ℕ → Bool) : Type 0 where
   pub there : (p : ℕ) → occurs p (run t n b) ≤ bit (todo p)
   pub ends : Ends t n b
 
--- these n and those that are left make those that were to be reached; or they do not fit
-abbrev pub Walked : List ℕ → ℕ → ℕ → (ℕ → Bool) → Bool → (ℕ → Bool) → Type 0
-Walked t n b todo true left = Ends t n b × ((p : ℕ) → bit (left p) + occurs p (run t n b) ≡ bit (todo p))
-Walked t n b todo false left = Fits t n b todo → ⊥
+-- these n and those that are left, the bits of a word, make those that were to be reached; or they do not fit
+abbrev pub Walked : List ℕ → ℕ → ℕ → (ℕ → Bool) → Option ℕ → Type 0
+Walked t n b todo (Some left) = Ends t n b × ((p : ℕ) → bit (bits left p) + occurs p (run t n b) ≡ bit (todo p))
+Walked t n b todo None = Fits t n b todo → ⊥
 
 -- one that is free links to itself
 abbrev pub Alone : List ℕ → (ℕ → Bool) → ℕ → Type 0
@@ -65,7 +65,7 @@ pub record Passed (t need : List ℕ) (free : ℕ → Bool) (b : ℕ) (s : ℕ �
   pub ends : (j : ℕ) → j < b → Ends t (get_or need j 0) j
   pub sums : (p : ℕ) → bit (s p) + total b (λ j. occurs p (at t need j)) ≡ bit (used free p)
 
--- all are walked; or there are no such lists
-abbrev pub AllWalked : List ℕ → List ℕ → (ℕ → Bool) → Bool → (ℕ → Bool) → Type 0
-AllWalked t need free true s = Passed t need free width s
-AllWalked t need free false s = Chained t need free → ⊥
+-- all are walked, and the bits of a word are left; or there are no such lists
+abbrev pub AllWalked : List ℕ → List ℕ → (ℕ → Bool) → Option ℕ → Type 0
+AllWalked t need free (Some left) = Passed t need free width (bits left)
+AllWalked t need free None = Chained t need free → ⊥

@@ -6,18 +6,15 @@ ghost use Rattle.rings.specs.Decides.{Decides};
 ghost use Rattle.chains.specs.Links.{num};
 ghost use Rattle.chains.specs.Chained.{Separate, Single};
 
-use sizes::Bid;
+use sizes::{BUFFERS, Bid};
 
 // Whether each links to itself.
-pub(crate) fn separate(chain: [Bid; sizes::BUFFERS]) -> bool
-    ensures { Decides result (Separate (map num chain)) }
+pub(crate) fn separate(chain: &[Bid; BUFFERS]) -> bool
+    ensures { Decides result (Separate (map num chain.now)) }
 {
     let mut all = true;
-    let mut b = 0;
-    while b < sizes::BUFFERS {
-        let x = chain[b];
-        all = all & (x.0 == b as u8);
-        b += 1;
+    for b in 0..BUFFERS {
+        all &= chain[b].0 == b as u8;
     }
     all
 }
@@ -45,14 +42,12 @@ fn single(need: u8, free: bool) -> bool
 }
 
 // The same for all.
-pub(crate) fn all_single(need: [u8; sizes::BUFFERS], free: u32) -> bool
-    ensures { Decides result ((b : ℕ) → b < width → Single need (bits free) b) }
+pub(crate) fn all_single(need: &[u8; BUFFERS], free: u32) -> bool
+    ensures { Decides result ((b : ℕ) → b < width → Single need.now (bits free) b) }
 {
     let mut all = true;
-    let mut b = 0;
-    while b < sizes::BUFFERS {
-        all = all & single(need[b], in_byte(free, b));
-        b += 1;
+    for b in 0..BUFFERS {
+        all &= single(need[b], in_byte(free, b));
     }
     all
 }

@@ -123,16 +123,14 @@ fn read(d: Desk, store: &[u8], n: u32, out: &mut [u8]) -> Turn
 fn why(d: Desk, name: u32, out: &mut [u8]) -> Turn
     ensures { (store : List ℕ) → Turned (some (why name)) store out.old d store out.new result }
 {
-    let k = d.state;
-    let w = reasons::why(k, name);
+    let w = reasons::why(d.state, name);
     let answer = w.answer;
-    if answer.code != 0 {
+    let Some(reason) = w.reason else {
         let length = answers::put_line(out, answer.code, answer.number, answer.running);
-        return turned(k, length);
-    }
-    let reason = w.reason;
+        return turned(d.state, length);
+    };
     let length = wording::put_reason_line(out, answer.code, answer.number, answer.running, reason);
-    turned(k, length)
+    turned(d.state, length)
 }
 
 // A line that is no order, whatever the store holds.
@@ -159,9 +157,10 @@ fn start(d: Desk, n: u32, out: &mut [u8]) -> Turn
 pub fn line(d: Desk, store: &mut [u8], line: &[u8], out: &mut [u8]) -> Turn
     ensures { Line store.old line.now out.old d store.new out.new result }
 {
-    let word = script::request(line);
+    let Some(word) = script::request(line) else {
+        return bad(d, out);
+    };
     match word {
-        Word::Bad => bad(d, out),
         Word::Call(call) => {
             let k = d.state;
             let done = called(k, call);

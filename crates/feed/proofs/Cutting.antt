@@ -1,18 +1,23 @@
 -- Cutting bytes into lines, and cutting them into chunks first, are the same.
 -- Assumes nothing.
-use Prim.Native.Nat.{ℕ, suc, ◌+◌, ◌-◌, ◌<◌}
+use Prim.Native.Nat.{ℕ, suc, ◌+◌, ◌≤◌, ◌<◌}
 use mathlib.Core.List.{List, [], ◌∷◌, ◌++◌, append_assoc, append-nil}
 use mathlib.Core.Logic.{⊎_elim}
+use mathlib.Core.Bool.{Bool}
 use mathlib.Core.Path.{◌≡◌, refl, sym, ap, ◌∙◌}
 use native.Mathlib.Omega.{arith}
 use native.Mathlib.Numerals.{add-one}
 use lib.Dec.{eqb}
-use lib.ListN.{length, take, drop, get_or, length-append, length-take, length-drop, take-append-drop}
-use lib.Seq.{get_or-append_seam, drop-drop, drop-cons, length-take-le, get_or-take, get_or-drop}
-use borrow.Author.Tests.{ne_eqb}
+use lib.ListN.{length, take, drop, get_or, length-append, length-take, take-append-drop}
+use lib.Seq.{get_or-append_seam, drop-cons, get_or-take}
+use borrow.Author.Tests.{eq-eqb, ne_eqb, eqb-true}
+use Rattle.std.specs.Prelude.{None, Some}
+use Rattle.std.specs.List.{position, position_or_len}
+use Rattle.std.proofs.lemmas.Grind.{common_steps}
+use Rattle.std.proofs.lemmas.List.Quantifiers.{position-Some}
+use Rattle.std.proofs.lemmas.List.Sums.{fails_before_first}
 use Rattle.lists.proofs.Laws.{either}
 use Rattle.feed.specs.Cut.{newline, ended, pending, ending, lines_of, with_newlines, NoNewline}
-use Rattle.feed.specs.Promises.{FirstNewline}
 
 pub ended-append : (p a b : List ℕ) → ended p (a ++ b) ≡ ended p a ++ ended (pending p a) b
 unfolding ended pending
@@ -80,25 +85,30 @@ same_cut (x ∷ a₁) (y ∷ a₂) c₁ c₂ free₁ free₂ e =
     let same : a₁ ≡ a₂ = r.0 in
     (cc, r.1)
 
--- ---- the next newline of a chunk
+-- ---- the first newline of what is left of a chunk
 
-module _ {chunk : List ℕ} {from n : ℕ} (e : FirstNewline chunk from n) where
-  -- the bytes before it
-  abbrev pub piece : List ℕ
-  piece = take (n - from) (drop from chunk)
+abbrev pub ends_line : ℕ → Bool
+ends_line b = eqb b newline
 
-  pub free : NoNewline piece
+pub none_free : (rest : List ℕ) → position ends_line rest ≡ None → NoNewline rest
+none_free rest e i h there =
+    let past : length rest ≤ position_or_len ends_line rest = grind (arith, common_steps) in
+    let other = fails_before_first ends_line rest i 0 (omega arith) in
+    let same = eq-eqb (get_or rest i 0) newline there in
+    (cc)
+
+module _ (rest : List ℕ) {n : ℕ} (e : position ends_line rest ≡ Some n) where
+  pub inside : n < length rest
+  inside = (position-Some ends_line rest n 0 e).0
+
+  pub free : NoNewline (take n rest)
   free i h there =
-      let few : i < n - from = omega (arith, length-take (n - from) (drop from chunk)) in
-      e.none_before (from + i) (omega arith) (omega arith) (sym (get_or-take (n - from) (drop from chunk) i 0 few ∙ get_or-drop from chunk i 0) ∙ there)
+      let few : i < n = omega (arith, length-take n rest) in
+      let other = (position-Some ends_line rest n 0 e).2 i few in
+      let same = eq-eqb (get_or rest i 0) newline (sym (get_or-take n rest i 0 few) ∙ there) in
+      (cc)
 
-  behind_piece : drop from chunk ≡ piece ++ drop n chunk
-  behind_piece =
-      let place : from + (n - from) ≡ n = omega (arith, e.after) in
-      sym (take-append-drop (n - from) (drop from chunk)) ∙ rw (drop-drop (n - from) from chunk, place)
-
-  pub cut : n < length chunk → drop from chunk ≡ piece ++ (newline ∷ drop (n + 1) chunk)
-  cut h = behind_piece ∙ rw (drop-cons chunk n 0 h, e.newline_there h, add-one)
-
-  pub long_piece : length piece ≡ n - from
-  long_piece = length-take-le (n - from) (drop from chunk) (rw length-drop (omega (arith, e.within)))
+  pub cut : rest ≡ take n rest ++ (newline ∷ drop (n + 1) rest)
+  cut =
+      let there : get_or rest n 0 ≡ newline = eqb-true (get_or rest n 0) newline (position-Some ends_line rest n 0 e).1 in
+      sym (take-append-drop n rest) ∙ rw (drop-cons rest n 0 inside, there, add-one)

@@ -1,19 +1,20 @@
 -- The theorems, from the desk's.
 -- Assumes nothing.
-use Prim.Native.Nat.{ℕ, ◌≤◌, ◌<◌}
+use Prim.Native.Nat.{ℕ, ◌+◌, ◌≤◌, ◌<◌}
 use mathlib.Core.List.{List, [], ◌++◌}
 use mathlib.Core.Logic.{◌⊎◌, inl, inr}
 use mathlib.Core.Path.{◌≡◌, refl, sym, ap, ◌∙◌, subst}
 use native.Mathlib.Omega.{arith}
 use lib.ListN.{length, take, replicate, length-replicate}
 use lib.Seq.{length-take-le}
+use Rattle.std.specs.Prelude.{Option, None, Some}
 use Rattle.lists.proofs.Laws.{le?}
 use Rattle.script.specs.Grammar.{longest_line}
 use Rattle.answers.proofs.AreaLaws.{written-whole, one_written}
 use Rattle.desk.specs.declared.Desk.{Desk}
 use Rattle.desk.proofs.Theorems.{one_desk, scripts}
 use Rattle.feed.specs.Cut.{ending, pending, lines_of, with_newlines}
-use Rattle.feed.specs.Buffer.{over_long, HoldsLine, whole, long}
+use Rattle.feed.specs.Buffer.{TooLong, Told, HoldsLine, whole, long}
 use Rattle.feed.specs.Theorems.{SomeLine, EveryBuffer, OneFresh, OneFeed, OneFinish, Chunks, Input, at_end, WholeInput, AnyChunks, OneBad}
 use Rattle.feed.specs.declared.Ongoing.{Ongoing}
 use Rattle.feed.proofs.Cutting.{first-line}
@@ -22,9 +23,10 @@ use Rattle.feed.proofs.Taking.{bounds, whole_end, one_way}
 use Rattle.feed.proofs.Passing.{Passed, nothing, taken, passed, one_session}
 
 pub every_buffer : EveryBuffer
-every_buffer line n size = by (le? n longest_line)
+every_buffer line None size = record { bytes = replicate (longest_line + 1) 0; holds = long tt (rw length-replicate (omega arith)) }
+every_buffer line (Some n) size = by (le? n longest_line)
   where
-    by : (n ≤ longest_line) ⊎ (longest_line < n) → SomeLine line n
+    by : (n ≤ longest_line) ⊎ (longest_line < n) → SomeLine line (Some n)
     by (inl h) = record { bytes = take n line; holds = whole h (sym (length-take-le n line (omega arith))) refl }
     by (inr h) = record { bytes = replicate n 0; holds = long h (rw length-replicate h) }
 
@@ -36,11 +38,15 @@ one-fresh o₁ o₂ a b =
     let held = a.held ∙ sym b.held in
     λ i. record { desk = desk i; held = held i }
 
-one-held : {p₁ p₂ line₁ line₂ : List ℕ} {n₁ n₂ : ℕ} → p₁ ≡ p₂ → n₁ ≤ over_long → n₂ ≤ over_long → HoldsLine p₁ line₁ n₁ → HoldsLine p₂ line₂ n₂ → n₁ ≡ n₂
-one-held e small₁ small₂ (whole short₁ counted₁ content₁) (whole short₂ counted₂ content₂) = counted₁ ∙ ap length e ∙ sym counted₂
+one-held : {p₁ p₂ line₁ line₂ : List ℕ} {n₁ n₂ : Option ℕ} → p₁ ≡ p₂ → Told n₁ → Told n₂ → HoldsLine p₁ line₁ n₁ → HoldsLine p₂ line₂ n₂ → n₁ ≡ n₂
+one-held e small₁ small₂ (whole short₁ counted₁ content₁) (whole short₂ counted₂ content₂) = ap Some (counted₁ ∙ ap length e ∙ sym counted₂)
 one-held e small₁ small₂ (whole short₁ counted₁ content₁) (long over₂ far₂) = absurd (omega (arith, ap length e))
 one-held e small₁ small₂ (long over₁ far₁) (whole short₂ counted₂ content₂) = absurd (omega (arith, ap length e))
-one-held e small₁ small₂ (long over₁ far₁) (long over₂ far₂) = omega arith
+one-held e small₁ small₂ (long {n = n₁} over₁ far₁) (long {n = n₂} over₂ far₂) = no_number n₁ small₁ over₁ ∙ sym (no_number n₂ small₂ over₂)
+  where
+    no_number : (n : Option ℕ) → Told n → TooLong n → n ≡ None
+    no_number None small over = refl
+    no_number (Some n) small over = absurd (omega arith)
 
 pub one_feed : OneFeed
 one_feed store line chunk out store₁ store₂ line₁ line₂ out₁ out₂ o r₁ r₂ size f₁ f₂ =
@@ -54,7 +60,7 @@ one_feed store line chunk out store₁ store₂ line₁ line₂ out₁ out₂ o 
       fed = λ i. record { next = record { desk = same.desk i; held = held i }; used = same.used i; wrote = written.0 i };
       store = same.store;
       area = written.1;
-      line = λ short. in_buffer short a.held ∙ same.pending ∙ sym (in_buffer (omega (arith, held)) b.held) ∙ ap (λ (n : ℕ). take n line₂) (sym held);
+      line = λ n e. in_buffer (rw e at a.small) (rw e at a.held) ∙ same.pending ∙ sym (in_buffer (rw e at a.small) (rw (sym held ∙ e) at b.held));
     }
 
 pub one_finish : OneFinish

@@ -1,6 +1,6 @@
 -- What `feed` and `finish` promise: how much of a chunk is taken, what is written for it, and what is pending then.
 -- Assumes nothing.
-use Rattle.std.specs.Prelude.{ℕ, ◌+◌, ◌-◌, ◌≤◌, ◌<◌, List, [], ◌∷◌, ◌++◌, ◌≡◌, length}
+use Rattle.std.specs.Prelude.{ℕ, ◌+◌, ◌-◌, ◌≤◌, ◌<◌, List, [], ◌∷◌, ◌++◌, ◌≡◌, length, Some}
 use Rattle.script.specs.Grammar.{order}
 use Rattle.answers.specs.Written.{Written}
 use Rattle.desk.specs.Line.{HoldsDesk, Answered}
@@ -9,14 +9,14 @@ use Rattle.desk.specs.Theorems.{longest_text}
 use Rattle.desk.specs.declared.Desk.{Desk}
 use Rattle.desk.specs.declared.Turn.{Turn}
 use Rattle.feed.specs.Cut.{newline, ending, NoNewline}
-use Rattle.feed.specs.Buffer.{over_long, HoldsLine}
+use Rattle.feed.specs.Buffer.{Told, HoldsLine}
 use Rattle.feed.specs.declared.Ongoing.{Ongoing}
 use Rattle.feed.specs.declared.Fed.{Fed}
 
 -- The promise of `Ongoing::fresh`: nothing has been read.
 pub record FromFresh (o : Ongoing) : Type 0 where
   pub desk : HoldsDesk o.desk at_first
-  pub held : o.held ≡ 0
+  pub held : o.held ≡ Some 0
 
 -- `Takes d store p chunk room d' store' p' used w`: from d and the store, with p pending and room for so many bytes of answers, the chunk leads to d', store' and p' pending; so many bytes of it are used, and w is written.
 -- `no_room`: without room for the longest text and its newline, nothing is taken.
@@ -29,13 +29,13 @@ pub data Takes : Desk → List ℕ → List ℕ → List ℕ → ℕ → Desk �
       → Answered store d (order (p ++ a)) d' store' text → Takes d' store' [] c (room - (length text + 1)) d'' store'' p'' used w
       → Takes d store p chunk room d'' store'' p'' (length a + 1 + used) (text ++ (newline ∷ w))
 
--- The promise of `feed`, where p is pending. What is written stands at the start of the area, whose rest is as it was. Of a line that is too long one number is told.
+-- The promise of `feed`, where p is pending. What is written stands at the start of the area, whose rest is as it was. Of a line that is too long no number is told.
 pub record Feeding (p store chunk out : List ℕ) (d : Desk) (store' line' out' : List ℕ) (r : Fed) : Type 0 where
   pub pending : List ℕ
   pub answers : List ℕ
   pub takes : Takes d store p chunk (length out) r.next.desk store' pending r.used answers
   pub held : HoldsLine pending line' r.next.held
-  pub small : r.next.held ≤ over_long
+  pub small : Told r.next.held
   pub written : Written answers out out' r.wrote
 
 abbrev pub Feeds : List ℕ → List ℕ → List ℕ → List ℕ → Ongoing → List ℕ → List ℕ → List ℕ → Fed → Type 0

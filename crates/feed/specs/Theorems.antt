@@ -1,6 +1,6 @@
 -- The theorems: no second answer; and however the input is cut into chunks, what is written is what the plain kernel's desk writes for its lines. Each is proved under its own name in proofs/Theorems.antt.
 -- Assumes nothing.
-use Rattle.std.specs.Prelude.{ℕ, ◌≤◌, ◌<◌, List, [], ◌∷◌, ◌++◌, ◌≡◌, length, take}
+use Rattle.std.specs.Prelude.{ℕ, ◌<◌, List, [], ◌∷◌, ◌++◌, ◌≡◌, length, take, Option, Some}
 use Rattle.plain.specs.Sizes.{store_size}
 use Rattle.promise.specs.Promise.{Stored}
 use Rattle.script.specs.Grammar.{longest_line}
@@ -17,12 +17,12 @@ use Rattle.feed.specs.declared.Ongoing.{Ongoing}
 use Rattle.feed.specs.declared.Fed.{Fed}
 
 -- 1. Every line buffer holds some line, whatever number is told of it: the promises say something of every input.
-pub record SomeLine (line : List ℕ) (n : ℕ) : Type 0 where
+pub record SomeLine (line : List ℕ) (n : Option ℕ) : Type 0 where
   pub bytes : List ℕ
   pub holds : HoldsLine bytes line n
 
 abbrev pub EveryBuffer : Type 0
-EveryBuffer = (line : List ℕ) (n : ℕ) → length line ≡ longest_line → SomeLine line n
+EveryBuffer = (line : List ℕ) (n : Option ℕ) → length line ≡ longest_line → SomeLine line n
 
 -- 2. No second answer: for the same desk, areas and chunk, what meets a promise is equal, but for the bytes of the line buffer behind those that it holds.
 abbrev pub OneFresh : Type 0
@@ -32,7 +32,7 @@ pub record SameFed (r₁ r₂ : Fed) (store₁ store₂ line₁ line₂ out₁ o
   pub fed : r₁ ≡ r₂
   pub store : store₁ ≡ store₂
   pub area : out₁ ≡ out₂
-  pub line : r₁.next.held ≤ longest_line → take r₁.next.held line₁ ≡ take r₁.next.held line₂
+  pub line : (n : ℕ) → r₁.next.held ≡ Some n → take n line₁ ≡ take n line₂
 
 abbrev pub OneFeed : Type 0
 OneFeed = (store line chunk out store₁ store₂ line₁ line₂ out₁ out₂ : List ℕ) (o : Ongoing) (r₁ r₂ : Fed) → length line ≡ longest_line

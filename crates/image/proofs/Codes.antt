@@ -6,7 +6,7 @@ use mathlib.Core.List.Memᴰ
 use mathlib.Core.List.{List, [], ◌∷◌, ◌++◌, Memᴰ}
 use Prim.Native.Nat.{ℕ, zero, suc, ◌+◌, ◌*◌, ◌/◌, ◌%◌, ◌^◌, ◌<◌}
 use native.Mathlib.Omega.{arith}
-use native.Mathlib.Nat.{suc-mul, add_comm, pow-suc, div-div-eq-div-mul}
+use native.Mathlib.Nat.{suc-mul, add_comm, pow-suc}
 use lib.ListN.{length, take, drop, length-append, length-drop, take-append-drop}
 use lib.Seq.{length-take-le}
 use Rattle.image.specs.Bytes.{byte, le, each}
@@ -150,20 +150,6 @@ le-more w a x h =
     let p : (a + 256 * x) % 256 ≡ a = omega arith in
     let q : (a + 256 * x) / 256 ≡ x = omega arith in
     rw (p, q)
-
-le-last : (a : ℕ) → U8 a → le 1 a ≡ a ∷ []
-le-last a h = let p : a % 256 ≡ a = omega arith in rw p
-
-pub from_le16 : (a b : ℕ) → U8 a → U8 b → le 2 (a + 256 * b) ≡ a ∷ b ∷ []
-from_le16 a b h k = le-more 1 a b h ∙ ap (λ (l : List ℕ). a ∷ l) (le-last b k)
-
-pub from_le32 : (a b c d : ℕ) → U8 a → U8 b → U8 c → U8 d → le 4 (a + 256 * (b + 256 * (c + 256 * d))) ≡ a ∷ b ∷ c ∷ d ∷ []
-from_le32 a b c d ha hb hc hd =
-    le-more 3 a (b + 256 * (c + 256 * d)) ha
-    ∙ ap (λ (l : List ℕ). a ∷ l) (le-more 2 b (c + 256 * d) hb ∙ ap (λ (l : List ℕ). b ∷ l) (from_le16 c d hc hd))
-
-pub le_four : (x : ℕ) → le 4 x ≡ x % 256 ∷ x / 256 % 256 ∷ x / 65536 % 256 ∷ x / 16777216 % 256 ∷ []
-le_four x = rw (div-div-eq-div-mul x 256 256, div-div-eq-div-mul x 65536 256)
 
 le_long : (w x : ℕ) → length (le w x) ≡ w
 le_long zero x = refl

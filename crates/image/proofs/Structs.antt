@@ -2,9 +2,9 @@
 -- Assumes nothing.
 use mathlib.Core.Path.{refl}
 use Rattle.sizes.specs.declared.Pid.{Pid}
-use Rattle.queues.specs.declared.Queues.{Queues}
+use Rattle.queues.specs.Queue.{Queues}
 use Rattle.sizes.specs.declared.Bid.{Bid}
-use Rattle.boxes.specs.declared.Boxes.{Boxes}
+use Rattle.boxes.specs.Box.{Boxes}
 use Rattle.procs.specs.declared.Procs.{Procs}
 use Rattle.mail.specs.declared.Mail.{Mail}
 use Rattle.kernel.specs.declared.Kernel.{Kernel}

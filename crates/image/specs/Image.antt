@@ -5,9 +5,9 @@ use mathlib.Core.List.{List, ◌++◌, Memᴰ}
 use Rattle.sizes.specs.declared.Pid.{Pid}
 use Rattle.plain.specs.Sizes as Sizes
 use Rattle.plain.specs.Sizes.{processes, buffers, mailboxes, semaphores}
-use Rattle.queues.specs.declared.Queues.{Queues}
+use Rattle.queues.specs.Queue.{Queues}
 use Rattle.sizes.specs.declared.Bid.{Bid}
-use Rattle.boxes.specs.declared.Boxes.{Boxes}
+use Rattle.boxes.specs.Box.{Boxes}
 use Rattle.procs.specs.declared.Procs.{Procs}
 use Rattle.mail.specs.declared.Mail.{Mail}
 use Rattle.kernel.specs.declared.Kernel.{Kernel}

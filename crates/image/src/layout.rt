@@ -52,8 +52,5 @@ pub(crate) const SIZE: usize = MODE + MAILBOXES;
 pub(crate) fn has_room(n: usize, at: usize, w: usize) -> bool
     ensures { result ≡ leb (at + w) n }
 {
-    if at > n {
-        return false;
-    }
-    w <= n - at
+    at <= n && w <= n - at
 }

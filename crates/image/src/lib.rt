@@ -24,19 +24,12 @@ pub fn read(area: &[u8]) -> Kernel
     if area.len() != layout::SIZE {
         return blank();
     }
-    let procs = get::procs(area);
-    let mail = get::mail(area);
-    let mut count = [0u16; SEMAPHORES];
-    get::halfwords(area, layout::COUNT, &mut count);
-    let mut births = [0u8; PROCESSES];
-    get::bytes(area, layout::BIRTHS, &mut births);
-    let settings = get::settings(area);
     Kernel {
-        procs,
-        mail,
-        count,
-        births,
-        settings,
+        procs: get::procs(area),
+        mail: get::mail(area),
+        count: get::halfwords(area, layout::COUNT),
+        births: get::units(area, layout::BIRTHS),
+        settings: get::settings(area),
     }
 }
 
@@ -47,16 +40,11 @@ pub fn write(area: &mut [u8], k: Kernel)
     if area.len() != layout::SIZE {
         return;
     }
-    let p = k.procs;
-    put::procs(area, p);
-    let m = k.mail;
-    put::mail(area, m);
-    let count = k.count;
-    put::halfwords(area, layout::COUNT, &count);
-    let births = k.births;
-    put::births(area, births);
-    let settings = k.settings;
-    put::settings(area, settings);
+    put::procs(area, k.procs);
+    put::mail(area, k.mail);
+    put::halfwords(area, layout::COUNT, k.count);
+    put::units(area, layout::BIRTHS, k.births);
+    put::settings(area, k.settings);
 }
 
 // The mail of a kernel whose every field is zero. It is no part of the code of its caller, where LLVM would make a call of `memset` of so many zeros.
@@ -64,21 +52,16 @@ pub fn write(area: &mut [u8], k: Kernel)
 fn blank_mail() -> Mail
     ensures { result ≡ blank.mail }
 {
-    let box_links = [Bid(0); layout::BOX_NODES];
-    let boxes = Boxes {
-        next: box_links,
-        prev: box_links,
-    };
-    let hand = [Bid(0); PROCESSES];
-    let length = [0u16; BUFFERS];
-    let chain = [Bid(0); BUFFERS];
     Mail {
-        boxes,
-        hand,
+        boxes: Boxes {
+            next: [Bid(0); layout::BOX_NODES],
+            prev: [Bid(0); layout::BOX_NODES],
+        },
+        hand: [Bid(0); PROCESSES],
         full: Pids(0),
-        length,
+        length: [0; BUFFERS],
         free: Bids(0),
-        chain,
+        chain: [Bid(0); BUFFERS],
     }
 }
 
@@ -86,34 +69,25 @@ fn blank_mail() -> Mail
 fn blank() -> Kernel
     ensures { result ≡ blank }
 {
-    let links = [Pid(0); layout::NODES];
-    let queues = Queues {
-        next: links,
-        prev: links,
-    };
-    let row = [0u8; PROCESSES];
-    let procs = Procs {
-        running: Pid(0),
-        class: row,
-        ticks: row,
-        queues,
-        ready: 0,
-        unused: Pids(0),
-    };
-    let mail = blank_mail();
-    let count = [0u16; SEMAPHORES];
-    let births = [0u8; PROCESSES];
-    let each = [0u8; MAILBOXES];
-    let settings = Settings {
-        slice: 0,
-        capacity: each,
-        mode: each,
-    };
     Kernel {
-        procs,
-        mail,
-        count,
-        births,
-        settings,
+        procs: Procs {
+            running: Pid(0),
+            class: [0; PROCESSES],
+            ticks: [0; PROCESSES],
+            queues: Queues {
+                next: [Pid(0); layout::NODES],
+                prev: [Pid(0); layout::NODES],
+            },
+            ready: 0,
+            unused: Pids(0),
+        },
+        mail: blank_mail(),
+        count: [0; SEMAPHORES],
+        births: [0; PROCESSES],
+        settings: Settings {
+            slice: 0,
+            capacity: [0; MAILBOXES],
+            mode: [0; MAILBOXES],
+        },
     }
 }

@@ -1,12 +1,13 @@
 -- What the tests of a state say together: it holds a sound state, or none.
 -- Assumes nothing.
 use Prim.Native.Nat.{ℕ, ◌+◌, ◌≤◌, ◌<◌}
-use mathlib.Core.Bool.{Bool, true, false, not, true≢false}
+use mathlib.Core.Bool.{Bool, true, false}
 use mathlib.Core.List.{List, [], ◌∷◌, map}
 use mathlib.Core.Option.{Option}
 use mathlib.Core.Path.{◌≡◌, refl, sym, ap, ◌∙◌, subst, fun_ext}
 use native.Mathlib.Omega.{arith}
 use lib.Dec.{ltb}
+use Rattle.std.specs.Prelude.{Some, None}
 use lib.ListN.{length, get_or, get_or-eq_default}
 use borrow.Author.Tests.{lt-ltb, le-ltb}
 use Rattle.lists.specs.Lists.{someone}
@@ -49,21 +50,17 @@ module _ (k : Kernel) where
   abbrev Wide : Type 0
   Wide = (length k.settings.capacity ≡ mailboxes) × (length k.settings.mode ≡ mailboxes)
 
-  pub not_set : (ok : Bool) → not ok ≡ true → Decides ok (Set (settings_of k)) → IsSound k → ⊥
-  not_set true e a s = true≢false (sym e)
-  not_set false e never (s, H, S) = never (subst Set H.settings.is S.settings)
+  pub not_set : (Set (settings_of k) → ⊥) → IsSound k → ⊥
+  not_set never (s, H, S) = never (subst Set H.settings.is S.settings)
 
-  pub not_kept : (ok : Bool) → not ok ≡ true → Decides ok (Births (count_in k.births)) → IsSound k → ⊥
-  not_kept true e a s = true≢false (sym e)
-  not_kept false e never (s, H, S) = never (rw (counts_are H.births) S.births)
+  pub not_kept : (Births (count_in k.births) → ⊥) → IsSound k → ⊥
+  not_kept never (s, H, S) = never (rw (counts_are H.births) S.births)
 
-  pub not_seated : (ok : Bool) (at : List ℕ) → not ok ≡ true → Seats.Decision slice (Stands.numbers k.procs) ok at → IsSound k → ⊥
-  not_seated true at e a s = true≢false (sym e)
-  not_seated false at e (never, z) (s, H, S) = never s.procs (record { keeps = H.procs; seated = rw (slice_is H) S.seated; highest = S.highest })
+  pub not_seated : Seats.Decision slice (Stands.numbers k.procs) None → IsSound k → ⊥
+  not_seated never (s, H, S) = never s.procs (record { keeps = H.procs; seated = rw (slice_is H) S.seated; highest = S.highest })
 
-  pub not_stocked : (ok : Bool) → not ok ≡ true → Stock.Decision (Carries.numbers k.mail) capacity ok → IsSound k → ⊥
-  not_stocked true e a s = true≢false (sym e)
-  not_stocked false e never (s, H, S) = never s.box s.hand (record { carries = H.mail; mail = subst (λ (x : Settings). Mail x.capacity s.box s.hand) H.settings.is S.mail })
+  pub not_stocked : Stock.Decision (Carries.numbers k.mail) capacity false → IsSound k → ⊥
+  not_stocked never (s, H, S) = never s.box s.hand (record { carries = H.mail; mail = subst (λ (x : Settings). Mail x.capacity s.box s.hand) H.settings.is S.mail })
 
   module _ {box : ℕ → List Message} {hand : ℕ → Option Message} (C : Carries.Carries (Carries.numbers k.mail) box hand) where
     front_holds : (m : ℕ) (l : List Message) → box m ≡ l → ltb (first buffers mailboxes (Carries.numbers k.mail).tables m) buffers ≡ someone l
@@ -111,11 +108,7 @@ module _ (k : Kernel) where
               (λ p h h'. rw (sym (runs r P.keeps.stands)) (F.others p h h')),
         )
 
-  pub decided : Wide → (set : Bool) → not set ≡ false → Decides set (Set (settings_of k)) → (kept : Bool) → not kept ≡ false → Decides kept (Births (count_in k.births)) → length k.births ≡ processes → length k.count ≡ semaphores → ((i : ℕ) → get_or k.count i 0 ≤ 65535) → (ok : Bool) (at : List ℕ) → not ok ≡ false → Seats.Decision slice (Stands.numbers k.procs) ok at
-      → (stocked : Bool) → not stocked ≡ false → Stock.Decision (Carries.numbers k.mail) capacity stocked → (b : Bool) → Decides b (All at) → Decides b (IsSound k)
-  decided W false x X u y Y wide long low ok at e a o g c b f = absurd (true≢false x)
-  decided W true x X false y Y wide long low ok at e a o g c b f = absurd (true≢false y)
-  decided W true x X true y Y wide long low false at e a o g c b f = absurd (true≢false e)
-  decided W true x X true y Y wide long low true at e a false g c b f = absurd (true≢false g)
-  decided W true x X true y Y wide long low true at e (r, P, A) true g (box, hand, Q) true f = sound P A W X Y wide Q long low f
-  decided W true x X true y Y wide long low true at e (r, P, A) true g (box, hand, Q) false f = λ s. f (all P A s)
+  pub decided : Wide → Set (settings_of k) → Births (count_in k.births) → length k.births ≡ processes → length k.count ≡ semaphores → ((i : ℕ) → get_or k.count i 0 ≤ 65535) → (at : List ℕ) → Seats.Decision slice (Stands.numbers k.procs) (Some at)
+      → Stock.Decision (Carries.numbers k.mail) capacity true → (b : Bool) → Decides b (All at) → Decides b (IsSound k)
+  decided W X Y wide long low at (r, P, A) (box, hand, Q) true f = sound P A W X Y wide Q long low f
+  decided W X Y wide long low at (r, P, A) (box, hand, Q) false f = λ s. f (all P A s)

@@ -18,9 +18,8 @@ use Rattle.plain.specs.State.{State}
 use Rattle.mail.specs.Carries.{numbers}
 use Rattle.mail.specs.Moves.{lacks, has_message, length_in_hand, relieved}
 use Rattle.mail.specs.declared.Mail.{Mail}
-use Rattle.verdicts.specs.Chain.{found}
+use Rattle.verdicts.specs.Chain.{Verdict, found}
 use Rattle.verdicts.specs.declared.Facts.{Facts}
-use Rattle.verdicts.specs.declared.Verdict.{Verdict}
 use Rattle.kernel.specs.Holds.{Holds}
 use Rattle.kernel.specs.Full.{refuses_at, overflows_at, busy_at}
 use Rattle.kernel.specs.Facts.{Gathered}

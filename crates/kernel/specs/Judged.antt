@@ -6,8 +6,7 @@ use Rattle.plain.specs.Sound.{Sound}
 use Rattle.plain.specs.State.{State}
 use Rattle.procs.specs.Stands as Procs
 use Rattle.mail.specs.Carries as Mail
-use Rattle.verdicts.specs.Chain.{verdict, found}
-use Rattle.verdicts.specs.declared.Verdict.{Verdict}
+use Rattle.verdicts.specs.Chain.{Verdict, verdict, found}
 use Rattle.kernel.specs.Holds.{Holds, IsSound}
 use Rattle.kernel.specs.declared.Done.{Done}
 use Rattle.kernel.specs.declared.Kernel.{Kernel}

@@ -1,8 +1,10 @@
 // The kernel: its state by value, the decision whether a state is sound, and every call as a method that hands back the next state beside the answer.
 #![tactic(auto)]
 
-ghost use Rattle.std.specs.Prelude.{◌≡◌};
+ghost use Rattle.std.specs.Prelude.{◌≡◌, Err};
 ghost use Rattle.plain.specs.State.{start};
+ghost use Rattle.verdicts.specs.Chain.{verdict};
+ghost use Rattle.verdicts.specs.Told.{told};
 ghost use Rattle.kernel.specs.Holds.{named, Holds};
 ghost use Rattle.kernel.specs.Facts.{Gathered};
 ghost use Rattle.kernel.specs.Judged.{answered, refused_with};
@@ -10,7 +12,7 @@ ghost use Rattle.kernel.specs.Promise.{Starts};
 
 use mail::Mail;
 use procs::Procs;
-use verdicts::{Facts, Verdict};
+use verdicts::{Facts, Refusal};
 
 mod letters;
 mod mailboxes;
@@ -56,15 +58,11 @@ impl Kernel {
     pub fn fresh(settings: Settings) -> Kernel
         ensures { Holds result (start (named settings)) }
     {
-        let procs = Procs::fresh();
-        let mail = Mail::fresh();
-        let count = [0u16; sizes::SEMAPHORES];
-        let births = [0u8; sizes::PROCESSES];
         Kernel {
-            procs,
-            mail,
-            count,
-            births,
+            procs: Procs::fresh(),
+            mail: Mail::fresh(),
+            count: [0; sizes::SEMAPHORES],
+            births: [0; sizes::PROCESSES],
             settings,
         }
     }
@@ -73,95 +71,100 @@ impl Kernel {
     pub fn fresh_start(slice: u32) -> Done
         ensures { Starts slice result }
     {
-        let v = verdicts::on_fresh_start(slice);
-        if v.code != 0 {
-            return Kernel::fresh(Settings::usual()).refuse(v);
+        if let Err(r) = verdicts::on_fresh_start(slice) {
+            return Kernel::fresh(Settings::usual()).refuse(r);
         }
-        let settings = Settings::of_slice((slice % 256) as u8);
-        Kernel::fresh(settings).answer(0, 0)
-    }
-
-    // The process that runs.
-    fn runner(self) -> u32
-        ensures { result ≡ self.procs.running.0 }
-    {
-        let k = self.procs;
-        k.running.0 as u32
+        Kernel::fresh(Settings::of_slice((slice % 256) as u8)).answer(0, 0)
     }
 
     // The state with a code, a number and the process that runs.
     fn answer(self, code: u32, number: u32) -> Done
         ensures { result ≡ answered self code number }
     {
-        let running = self.runner();
-        let state = self;
+        Done {
+            state: self,
+            answer: Answer {
+                code,
+                number,
+                running: self.procs.running.0 as u32,
+            },
+        }
+    }
+
+    // The state with a code and a number of a refusal and the process that runs; code 14 comes with running 0.
+    fn refused(self, code: u32, number: u32) -> Done
+        ensures { result ≡ refused_with self (verdict code number) }
+    {
+        let mut running = self.procs.running.0 as u32;
+        if code == Refusal::NotSound.code() {
+            running = 0;
+        }
         let answer = Answer {
             code,
             number,
             running,
         };
-        Done { state, answer }
-    }
-
-    // The state with what refused the call; code 14 comes with running 0.
-    fn refuse(self, v: Verdict) -> Done
-        ensures { result ≡ refused_with self v }
-    {
-        let mut running = self.runner();
-        if v.code == 14 {
-            running = 0;
+        Done {
+            state: self,
+            answer,
         }
-        let state = self;
-        let answer = Answer {
-            code: v.code,
-            number: v.number,
-            running,
-        };
-        Done { state, answer }
     }
 
-    // A verdict with the process that runs, of a question: the state stays in any case.
-    pub fn answer_to(self, v: Verdict) -> Answer
-        ensures { result ≡ (refused_with self v).answer }
+    // The state with what refused the call.
+    fn refuse(self, r: Refusal) -> Done
+        ensures { result ≡ refused_with self (told (Err r)) }
     {
-        let told = self.refuse(v);
-        let answer = told.answer;
-        answer
+        self.refused(r.code(), r.number())
     }
 
-    fn with_procs(mut self, next: Procs) -> Kernel
+    // A code and a number with the process that runs, of a question: the state stays in any case.
+    pub fn answer_to(self, code: u32, number: u32) -> Answer
+        ensures { result ≡ (refused_with self (verdict code number)).answer }
+    {
+        self.refused(code, number).answer
+    }
+
+    // The answer to a question on which this was found.
+    pub fn answer_found(self, v: Result<(), Refusal>) -> Answer
+        ensures { result ≡ (refused_with self (told v)).answer }
+    {
+        match v {
+            Ok(()) => self.answer_to(0, 0),
+            Err(r) => self.refuse(r).answer,
+        }
+    }
+
+    fn with_procs(self, next: Procs) -> Kernel
         ensures { result ≡ record { procs = next; mail = self.mail; count = self.count; births = self.births; settings = self.settings } }
     {
-        self.procs = next;
-        self
+        Kernel {
+            procs: next,
+            ..self
+        }
     }
 
-    fn with_mail(mut self, next: Mail) -> Kernel
+    fn with_mail(self, next: Mail) -> Kernel
         ensures { result ≡ record { procs = self.procs; mail = next; count = self.count; births = self.births; settings = self.settings } }
     {
-        self.mail = next;
-        self
+        Kernel { mail: next, ..self }
     }
 
-    fn with_count(mut self, next: [u16; sizes::SEMAPHORES]) -> Kernel
+    fn with_count(self, next: [u16; sizes::SEMAPHORES]) -> Kernel
         ensures { result ≡ record { procs = self.procs; mail = self.mail; count = next; births = self.births; settings = self.settings } }
     {
-        self.count = next;
-        self
+        Kernel {
+            count: next,
+            ..self
+        }
     }
 
-    fn with_births(mut self, next: [u8; sizes::PROCESSES]) -> Kernel
-        ensures { result ≡ record { procs = self.procs; mail = self.mail; count = self.count; births = next; settings = self.settings } }
-    {
-        self.births = next;
-        self
-    }
-
-    fn with_settings(mut self, next: Settings) -> Kernel
+    fn with_settings(self, next: Settings) -> Kernel
         ensures { result ≡ record { procs = self.procs; mail = self.mail; count = self.count; births = self.births; settings = next } }
     {
-        self.settings = next;
-        self
+        Kernel {
+            settings: next,
+            ..self
+        }
     }
 
     // What is read off the state before any call is judged.
@@ -169,14 +172,10 @@ impl Kernel {
     pub fn facts(self) -> Facts
         ensures { Gathered self result }
     {
-        let sound = self.is_sound();
-        let k = self.procs;
-        let runner = k.running;
-        let settings = self.settings;
         Facts {
-            sound,
-            runner,
-            slice: settings.slice,
+            sound: self.is_sound(),
+            runner: self.procs.running,
+            slice: self.settings.slice,
         }
     }
 }

@@ -6,6 +6,7 @@ ghost use Rattle.plain.specs.State.{usual};
 ghost use Rattle.kernel.specs.Holds.{named};
 
 use crate::Settings;
+use tables::set_entry;
 
 const USUAL_SLICE: u8 = sizes::USUAL_SLICE as u8;
 
@@ -16,12 +17,10 @@ impl Settings {
     pub fn of_slice(slice: u8) -> Settings
         ensures { named result ≡ slice_of slice }
     {
-        let capacity = [USUAL_CAPACITY; sizes::MAILBOXES];
-        let mode = [0u8; sizes::MAILBOXES];
         Settings {
             slice,
-            capacity,
-            mode,
+            capacity: [USUAL_CAPACITY; sizes::MAILBOXES],
+            mode: [0; sizes::MAILBOXES],
         }
     }
 
@@ -38,21 +37,15 @@ impl Settings {
         if self.slice == 0 {
             return false;
         }
-        let capacity = self.capacity;
-        let mode = self.mode;
-        habits::may_be_set(capacity, mode)
+        habits::may_be_set(self.capacity, self.mode)
     }
 
     // Mailbox m takes so many messages from now on, and is of this mode.
-    pub(crate) fn allotted(self, m: u32, capacity: u8, mode: u8) -> Settings
+    pub(crate) fn allotted(mut self, m: u32, capacity: u8, mode: u8) -> Settings
         ensures { result ≡ record { slice = self.slice; capacity = set self.capacity m capacity; mode = set self.mode m mode } }
     {
-        let capacities = self.capacity;
-        let modes = self.mode;
-        Settings {
-            slice: self.slice,
-            capacity: habits::with_entry(capacities, m, capacity),
-            mode: habits::with_entry(modes, m, mode),
-        }
+        set_entry(&mut self.capacity, m as usize, capacity);
+        set_entry(&mut self.mode, m as usize, mode);
+        self
     }
 }

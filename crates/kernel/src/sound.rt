@@ -12,25 +12,22 @@ impl Kernel {
         if !settings.may_be_set() {
             return false;
         }
-        let births = self.births;
-        if !names::may_be_kept(births) {
+        if !names::may_be_kept(self.births) {
             return false;
         }
-        let k = self.procs;
-        let found = seats::seated(k, settings.slice);
-        if !found.ok {
+        let Some(at) = seats::seated(self.procs, settings.slice) else {
             return false;
-        }
+        };
         let mail = self.mail;
-        let capacity = settings.capacity;
-        if !stock::stocked(mail, capacity) {
+        if !stock::stocked(mail, settings.capacity) {
             return false;
         }
-        let at = found.at;
-        let running = k.running;
-        let boxes = mail.boxes;
-        let next = boxes.next;
-        let count = self.count;
-        waits::all_fit(at, running, mail.full, next, count)
+        waits::all_fit(
+            at,
+            self.procs.running,
+            mail.full,
+            mail.boxes.next,
+            self.count,
+        )
     }
 }

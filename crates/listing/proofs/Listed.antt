@@ -1,29 +1,26 @@
 -- From the sheet to the promise: the rows that it allows have room, and written into a table they are those of the promise.
 -- Assumes nothing.
-use Prim.Native.Nat.{ℕ, ◌≤◌}
-use mathlib.Core.Bool.{Bool, true, false, ◌&&◌, true≢false}
-use mathlib.Core.List.{List}
-use mathlib.Core.Path.{◌≡◌, refl, sym, ap, ◌∙◌}
+use Prim.Native.Nat.{ℕ, ◌+◌, ◌-◌, ◌≤◌}
+use mathlib.Core.Bool.{Bool, true, false, true≢false}
+use mathlib.Core.List.{List, ◌++◌}
+use mathlib.Core.Path.{◌≡◌, refl, sym, ap, ◌∙◌, subst}
 use native.Mathlib.Omega.{arith}
 use lib.Dec.{ltb}
-use lib.ListN.{length, get_or}
+use lib.ListN.{length, get_or, drop, length-append, get_or-append}
 use borrow.Author.Tests.{ltb-true, ltb-false}
-use Rattle.std.specs.Prelude.{if◌then◌else◌}
+use Rattle.std.specs.Prelude.{Option, Some, None, is_some, if◌then◌else◌}
+use Rattle.std.proofs.lemmas.List.{get_or-append_right, get_or-drop}
+use Rattle.std.proofs.Common.{length-drop}
 use Rattle.plain.specs.Listing.{row, listing}
 use Rattle.plain.specs.Sizes.{processes}
 use Rattle.plain.specs.State.{State}
 use Rattle.plain_laws.specs.History.{is_done}
 use Rattle.promise.specs.Promise.{sound, unsound}
-use Rattle.rows.specs.Row.{as_row, bare, Each}
+use Rattle.rows.specs.Row.{as_row, Each}
 use Rattle.rows.specs.declared.Row.{Row}
-use Rattle.rows.proofs.Filled.{filled, filled-length, past, among}
 use Rattle.listing.specs.Listed.{Lists}
-use Rattle.listing.specs.Sheets.{Sheets}
+use Rattle.listing.specs.Sheets.{Ruled, Sheets}
 use Rattle.listing.specs.declared.Sheet.{Sheet}
-
--- row i of a sheet
-abbrev pub row_on : Sheet → ℕ → Row
-row_on l i = get_or l.rows i (bare 0)
 
 -- a listing is not refused only where the table has a row for each process
 has_room : (s : State) (m : ℕ) → is_done (listing s m) ≡ true → processes ≤ m
@@ -34,36 +31,53 @@ has_room s m e = go (ltb m processes) refl
     go true t = absurd (true≢false (sym (rw t at e)))
     go false t = ltb-false m processes t
 
--- the rows that a sheet allows have room in the table, and it has so many
-pub record Fit (m : ℕ) (l : Sheet) : Type 0 where
-  pub room : l.count ≤ m
-  pub long : l.count ≤ length l.rows
+some≢none : {A : Type 0} {x : A} → Some x ≡ None → ⊥
+some≢none e = true≢false (ap is_some e)
 
-module _ {m : ℕ} {l : Sheet} where
-  ruled_fit : (b : Bool) → (b ≡ true → processes ≤ m) → l.count ≡ (if b then processes else 0) → length l.rows ≡ processes → Fit m l
-  ruled_fit true h c e = let r = h refl in record { room = omega arith; long = omega arith }
-  ruled_fit false h c e = record { room = omega arith; long = omega arith }
+-- what a sheet says of a state that lies in the area, by the rows that it has
+ruled : (s : State) (m : ℕ) {o o' : Option (List Row)} → o ≡ o' → Ruled s m o → Ruled s m o'
+ruled s m e r = subst (Ruled s m) e r
 
-  pub fit : {area : List ℕ} → Sheets area m l → Fit m l
-  fit (sound i h) = let g = (h i.0 i.1 i.2).1 in ruled_fit (is_done (listing i.0 m)) (has_room i.0 m) g.count g.rows.long
-  fit (unsound n k a b) = ruled_fit false (λ e. absurd (true≢false (sym e))) b.count b.rows.long
+module _ {area : List ℕ} (m : ℕ) {l : Sheet} (table : List Row) (e : l.rows ≡ Some table) where
+  -- a sheet has rows only for a table with a row for each process, and it has so many
+  pub room : Sheets area m l → processes ≤ m
+  room (sound i h) = has_room i.0 m (ruled i.0 m e (h i.0 i.1 i.2).1).0
+  room (unsound n k a none) = absurd (some≢none (sym e ∙ none))
 
-module _ (ys : List Row) (l : Sheet) where
-  abbrev pub later : List Row
-  later = filled ys (row_on l) l.count
+  pub long : Sheets area m l → length table ≡ processes
+  long (sound i h) = (ruled i.0 m e (h i.0 i.1 i.2).1).1.long
+  long (unsound n k a none) = absurd (some≢none (sym e ∙ none))
 
-  -- what stands at each index, where the listing is done and where it is refused
-  at : (s : State) (b : Bool) → (b ≡ true → processes ≤ length ys) → l.count ≡ (if b then processes else 0) → Each (λ i. if b then as_row (row s i) else bare 0) l.rows
-      → (i : ℕ) (d : Row) → get_or later i d ≡ (if b && ltb i processes then as_row (row s i) else get_or ys i d)
-  at s true h c e i d = rw c (go (ltb i processes) refl)
+-- what stands at each index of the rows and, behind them, of a table that has room for them
+at : (s : State) (ys table : List Row) → Each (λ i. as_row (row s i)) table → (i : ℕ) (d : Row) → get_or (table ++ drop processes ys) i d ≡ (if ltb i processes then as_row (row s i) else get_or ys i d)
+at s ys table e i d = go (ltb i processes) refl
+  where
+    go : (t : Bool) → ltb i processes ≡ t → get_or (table ++ drop processes ys) i d ≡ (if t then as_row (row s i) else get_or ys i d)
+    go true t = let p = ltb-true i processes t in get_or-append table (drop processes ys) d i (omega (arith, p, e.long)) ∙ e.at i d p
+    go false t =
+        let p : processes ≤ i = ltb-false i processes t in
+        let past : processes + (i - processes) ≡ i = omega (arith, p) in
+        get_or-append_right table (drop processes ys) processes i d e.long p ∙ get_or-drop processes ys (i - processes) d ∙ ap (λ (j : ℕ). get_or ys j d) past
+
+module _ {area : List ℕ} (ys : List Row) {l : Sheet} (p : Sheets area (length ys) l) where
+  -- the rows of a sheet, written over the first of a table, and its answer are those of the promise
+  pub listed : (table : List Row) → l.rows ≡ Some table → Lists ys (table ++ drop processes ys) area l.answer
+  listed table e = go p
     where
-      go : (t : Bool) → ltb i processes ≡ t → get_or (filled ys (row_on l) processes) i d ≡ (if t then as_row (row s i) else get_or ys i d)
-      go true t = let p = ltb-true i processes t in among ys (row_on l) processes i d p (h refl) ∙ e.at i (bare 0) p
-      go false t = past ys (row_on l) processes i d (ltb-false i processes t)
-  at s false h c e i d = rw c
+      fits : processes ≤ length ys
+      fits = room (length ys) table e p
 
-  -- the rows that a sheet allows, and its answer, are those of the promise
-  pub lists : {area : List ℕ} → Sheets area (length ys) l → Lists ys later area l.answer
-  lists (sound i h) = sound i (λ s H S. let g = h s H S in
-      (g.0, record { long = filled-length ys (row_on l) l.count; at = at s (is_done (listing s (length ys))) (has_room s (length ys)) g.1.count g.1.rows }))
-  lists (unsound n k a b) = unsound n k a (ap (filled ys (row_on l)) b.count)
+      whole : length (table ++ drop processes ys) ≡ length ys
+      whole = omega (arith, length-append table (drop processes ys), length-drop processes ys, long (length ys) table e p, fits)
+
+      go : Sheets area (length ys) l → Lists ys (table ++ drop processes ys) area l.answer
+      go (sound i h) = sound i (λ s H S. let g = h s H S in let r = ruled s (length ys) e g.1 in (g.0, record { long = whole; at = λ j d. rw r.0 (at s ys table r.1 j d) }))
+      go (unsound n k a none) = absurd (some≢none (sym e ∙ none))
+
+  -- where a sheet has none, the table as it was
+  pub unlisted : l.rows ≡ None → Lists ys ys area l.answer
+  unlisted e = go p
+    where
+      go : Sheets area (length ys) l → Lists ys ys area l.answer
+      go (sound i h) = sound i (λ s H S. let g = h s H S in (g.0, record { long = refl; at = λ j d. rw (ruled s (length ys) e g.1) refl }))
+      go (unsound n k a none) = unsound n k a refl

@@ -1,23 +1,24 @@
 // What is held: the mailboxes' queues of messages, each process's hand, the length of each message, which buffers are free, and how those of a message are linked.
 // A message is known by the first of its buffers: that one is queued or in a hand, and has its length.
 // Every function answers for every number: past the last process there is no hand, past the last mailbox no queue, past the last buffer no message.
-#![tactic(auto)]
+// So 32 can stand for no buffer, and no Option does: every step takes it as it is, and changes nothing.
+// An array that is asked or changed at an index is copied out first: lent from within, it would have the whole struct copied, some 30 instructions a call.
+#![tactic(auto, unfolding(boxes::specs::Box::tables_of, crate::specs::Carries::numbers, crate::specs::Moves::lowest_free, crate::specs::Moves::lacks, crate::specs::Moves::is_full_box, crate::specs::Moves::is_empty_box, crate::specs::Moves::has_message, crate::specs::Moves::hand_at, crate::specs::Moves::length_in_hand, crate::specs::Moves::first_length, crate::specs::Moves::filled, crate::specs::Moves::freed, crate::specs::Moves::given, crate::specs::Moves::emptied, crate::specs::Moves::queued_last, crate::specs::Moves::handed_over, crate::specs::Moves::delivered, crate::specs::Moves::oldest_dropped, crate::specs::Moves::relieved, crate::specs::Moves::fetched, crate::specs::Moves::let_go))]
 
-ghost use Rattle.std.specs.Prelude.{◌≡◌, map, get_or, set};
-ghost use Rattle.boxes.specs.Box.{num};
+ghost use Rattle.std.specs.Prelude.{◌≡◌};
 ghost use Rattle.mail.specs.Carries.{numbers};
-ghost use Rattle.mail.specs.Moves.{lowest_free, lacks, is_full_box, is_empty_box, has_message, hand_at, length_in_hand, first_length, fresh_mail, filled, freed, given, emptied, queued_last, handed_over, delivered, oldest_dropped, relieved, fetched, let_go};
+ghost use Rattle.mail.specs.Moves.{lowest_free, lacks, is_full_box, is_empty_box, has_message, hand_at, length_at, length_in_hand, first_length, fresh_mail, filled, freed, given, emptied, queued_last, handed_over, delivered, oldest_dropped, relieved, fetched, let_go};
 
 use boxes::Boxes;
 use sizes::{Bid, Bids, Pid, Pids};
+use tables::{entry, set_entry};
 
 const PROCESSES: u8 = sizes::PROCESSES as u8;
 
-const BUFFERS: u8 = sizes::BUFFERS as u8;
-
 // A bit for each buffer.
-const ALL: u32 = 4294967295;
+const ALL: u32 = u32::MAX;
 
+// As the image has it: each hand, and apart from it a bit that says whether it is full, where an Option would have both.
 #[derive(Clone, Copy)]
 pub struct Mail {
     pub boxes: Boxes,
@@ -28,68 +29,19 @@ pub struct Mail {
     pub chain: [Bid; sizes::BUFFERS],
 }
 
-// What the hands have for p, or 0 past the last hand.
-fn hand_of(hands: [Bid; sizes::PROCESSES], p: Pid) -> Bid
-    ensures { result.0 ≡ get_or (map num hands) p.0 0 }
-{
-    if p.0 < PROCESSES {
-        let i = p.0 as usize;
-        return hands[i];
-    }
-    Bid(0)
-}
-
-// The hands with b in that of p, or as they are past the last hand.
-fn with_hand(mut hands: [Bid; sizes::PROCESSES], p: Pid, b: Bid) -> [Bid; sizes::PROCESSES]
-    ensures { map num result ≡ set (map num hands) p.0 b.0 }
-{
-    if p.0 < PROCESSES {
-        let i = p.0 as usize;
-        hands[i] = b;
-        return hands;
-    }
-    hands
-}
-
-// The length of the message that begins in b, or 0 past the last buffer.
-fn length_of(lengths: [u16; sizes::BUFFERS], b: Bid) -> u32
-    ensures { result ≡ get_or lengths b.0 0 }
-{
-    if b.0 < BUFFERS {
-        let i = b.0 as usize;
-        return lengths[i] as u32;
-    }
-    0
-}
-
-// The lengths with n at b, or as they are past the last buffer.
-fn with_length(mut lengths: [u16; sizes::BUFFERS], b: Bid, n: u16) -> [u16; sizes::BUFFERS]
-    ensures { result ≡ set lengths b.0 n }
-{
-    if b.0 < BUFFERS {
-        let i = b.0 as usize;
-        lengths[i] = n;
-        return lengths;
-    }
-    lengths
-}
-
 impl Mail {
     // Nothing is queued, nothing is in a hand, every buffer is free.
+    #[tactic(auto, unfolding(boxes::specs::Box::tables_of, crate::specs::Carries::numbers, crate::specs::Moves::fresh_mail, bits::specs::Word::word))]
     pub fn fresh() -> Mail
         ensures { numbers result ≡ fresh_mail }
     {
-        let boxes = Boxes::fresh();
-        let hand = [Bid(0); sizes::PROCESSES];
-        let length = [0u16; sizes::BUFFERS];
-        let chain = chains::fresh();
         Mail {
-            boxes,
-            hand,
+            boxes: Boxes::fresh(),
+            hand: [Bid(0); sizes::PROCESSES],
             full: Pids(0),
-            length,
+            length: [0; sizes::BUFFERS],
             free: Bids(ALL),
-            chain,
+            chain: chains::fresh(),
         }
     }
 
@@ -111,15 +63,13 @@ impl Mail {
     pub fn is_full_box(self, m: u32, n: u32) -> bool
         ensures { result ≡ is_full_box (numbers self) m n }
     {
-        let queues = self.boxes;
-        queues.holds_at_least(m, n)
+        self.boxes.holds_at_least(m, n)
     }
 
     pub fn is_empty_box(self, m: u32) -> bool
         ensures { result ≡ is_empty_box (numbers self) m }
     {
-        let queues = self.boxes;
-        queues.is_empty(m)
+        self.boxes.is_empty(m)
     }
 
     // Whether the hand of p is full.
@@ -133,108 +83,108 @@ impl Mail {
     pub fn in_hand(self, p: Pid) -> Bid
         ensures { result.0 ≡ hand_at (numbers self) p.0 }
     {
-        let hands = self.hand;
-        hand_of(hands, p)
+        let hand = self.hand;
+        entry(&hand, p.0 as usize, Bid(0))
+    }
+
+    // The length of the message that begins in b, or 0 past the last buffer.
+    fn length_of(self, b: Bid) -> u16
+        ensures { result ≡ length_at (numbers self) b.0 }
+    {
+        let length = self.length;
+        entry(&length, b.0 as usize, 0)
     }
 
     // The length of the message in the hand of p, or 0 where the hand is empty.
     pub fn length_in_hand(self, p: Pid) -> u32
         ensures { result ≡ length_in_hand (numbers self) p.0 }
     {
-        if !self.has_message(p) {
-            return 0;
+        if self.has_message(p) {
+            self.length_of(self.in_hand(p)) as u32
+        } else {
+            0
         }
-        let lengths = self.length;
-        let held = self.in_hand(p);
-        length_of(lengths, held)
     }
 
     // The length of the first message of mailbox m, or 0 where it is empty.
     pub fn first_length(self, m: u32) -> u32
         ensures { result ≡ first_length (numbers self) m }
     {
-        let queues = self.boxes;
-        let lengths = self.length;
-        let first = queues.first(m);
-        length_of(lengths, first)
+        self.length_of(self.boxes.first(m)) as u32
     }
 
     // As many of the lowest free buffers as n bytes need take a message of n bytes.
-    fn fill(mut self, n: u16) -> Mail
+    fn fill(self, n: u16) -> Mail
         ensures { numbers result ≡ filled (numbers self) n }
     {
         let b = self.lowest_free();
-        let old = self.length;
-        let lengths = with_length(old, b, n);
-        let links = self.chain;
-        let taken = chains::take(links, self.free, chains::buffers_for(n as usize));
-        let chain = taken.chain;
-        let free = taken.free;
-        self.length = lengths;
-        self.chain = chain;
-        self.free = free;
-        self
+        let mut length = self.length;
+        set_entry(&mut length, b.0 as usize, n);
+        let mut chain = self.chain;
+        let mut free = self.free;
+        chains::take(&mut chain, &mut free, chains::buffers_for(n as usize));
+        Mail {
+            length,
+            chain,
+            free,
+            ..self
+        }
     }
 
     // The buffers of the message that begins in b become free.
-    fn set_free(mut self, b: Bid) -> Mail
+    fn set_free(self, b: Bid) -> Mail
         ensures { numbers result ≡ freed (numbers self) b.0 }
     {
-        let old = self.length;
-        let n = length_of(old, b) as usize;
-        let lengths = with_length(old, b, 0);
-        let links = self.chain;
-        let left = chains::give_back(links, b, chains::buffers_for(n), self.free);
-        let chain = left.chain;
-        let free = left.free;
-        self.length = lengths;
-        self.chain = chain;
-        self.free = free;
-        self
+        let held = chains::buffers_for(self.length_of(b) as usize);
+        let mut length = self.length;
+        set_entry(&mut length, b.0 as usize, 0);
+        let mut chain = self.chain;
+        let mut free = self.free;
+        chains::give_back(&mut chain, b, held, &mut free);
+        Mail {
+            length,
+            chain,
+            free,
+            ..self
+        }
     }
 
     // The message that begins in b goes into the hand of p.
-    fn give(mut self, p: Pid, b: Bid) -> Mail
+    fn give(self, p: Pid, b: Bid) -> Mail
         ensures { numbers result ≡ given (numbers self) p.0 b.0 }
     {
-        let old = self.hand;
-        let hands = with_hand(old, p, b);
-        self.hand = hands;
+        let mut hand = self.hand;
+        set_entry(&mut hand, p.0 as usize, b);
         let full = Pids(bits::with_bit(self.full.0, p.0 as u32));
-        self.full = full;
-        self
+        Mail { hand, full, ..self }
     }
 
     // The hand of p becomes empty.
-    fn empty_hand(mut self, p: Pid) -> Mail
+    fn empty_hand(self, p: Pid) -> Mail
         ensures { numbers result ≡ emptied (numbers self) p.0 }
     {
-        let old = self.hand;
-        let hands = with_hand(old, p, Bid(0));
-        self.hand = hands;
+        let mut hand = self.hand;
+        set_entry(&mut hand, p.0 as usize, Bid(0));
         let full = Pids(bits::without_bit(self.full.0, p.0 as u32));
-        self.full = full;
-        self
+        Mail { hand, full, ..self }
     }
 
     // A message of n bytes takes its buffers and is queued last in mailbox m.
     fn queue_last(self, m: u32, n: u16) -> Mail
         ensures { numbers result ≡ queued_last (numbers self) m n }
     {
-        let queues = self.boxes;
-        let joined = queues.join_rear(m, self.lowest_free());
-        let mut next = self.fill(n);
-        next.boxes = joined;
-        next
+        let boxes = self.boxes.join_rear(m, self.lowest_free());
+        Mail {
+            boxes,
+            ..self.fill(n)
+        }
     }
 
     // A message of n bytes takes its buffers and goes into the hand of p.
     fn hand_over(self, p: Pid, n: u16) -> Mail
         ensures { numbers result ≡ handed_over (numbers self) p.0 n }
     {
-        let b = self.lowest_free();
-        let next = self.fill(n);
-        next.give(p, b)
+        self.fill(n).give(p, self.lowest_free())
     }
 
     // A message of n bytes takes its buffers for mailbox m: w, the first who waits there, gets it in hand; where w is no process, it is queued last.
@@ -253,12 +203,12 @@ impl Mail {
     fn drop_oldest(self, m: u32) -> Mail
         ensures { numbers result ≡ oldest_dropped (numbers self) m }
     {
-        let queues = self.boxes;
-        let b = queues.first(m);
-        let rest = queues.leave(b);
-        let mut next = self.set_free(b);
-        next.boxes = rest;
-        next
+        let lost = self.boxes.first(m);
+        let boxes = self.boxes.leave(lost);
+        Mail {
+            boxes,
+            ..self.set_free(lost)
+        }
     }
 
     // What a send to mailbox m finds: where `drops` holds, its oldest message is dropped first.
@@ -273,12 +223,12 @@ impl Mail {
     pub fn fetch(self, m: u32, p: Pid) -> Mail
         ensures { numbers result ≡ fetched (numbers self) m p.0 }
     {
-        let queues = self.boxes;
-        let b = queues.first(m);
-        let left = queues.leave(b);
-        let mut next = self.give(p, b);
-        next.boxes = left;
-        next
+        let first = self.boxes.first(m);
+        let boxes = self.boxes.leave(first);
+        Mail {
+            boxes,
+            ..self.give(p, first)
+        }
     }
 
     // The buffers of the message in the hand of p become free; nothing changes where the hand is empty.
@@ -288,8 +238,6 @@ impl Mail {
         if !self.has_message(p) {
             return self;
         }
-        let b = self.in_hand(p);
-        let next = self.set_free(b);
-        next.empty_hand(p)
+        self.set_free(self.in_hand(p)).empty_hand(p)
     }
 }

@@ -1,21 +1,24 @@
 // Who runs: the process queues, each process's class and ticks left, a bit for each class that has someone ready, and a bit for each number
 // that is unused.
 // Every function answers for every struct and every number: a number that names no process has no entry and joins no queue.
-#![tactic(auto)]
+// So such a number can stand for nobody, and no Option does: every move takes it as it is.
+// An array that is asked or changed at an index is copied out first: lent from within, it would have the whole struct copied, some 30 instructions a call.
+#![tactic(auto, unfolding(queues::specs::Queue::tables_of, crate::specs::Stands::numbers, crate::specs::Moves::runs, crate::specs::Moves::ranked, crate::specs::Moves::timed, crate::specs::Moves::marked, crate::specs::Moves::noted, crate::specs::Moves::requeued, crate::specs::Moves::joined, crate::specs::Moves::fronted, crate::specs::Moves::gone, crate::specs::Moves::first_runs, crate::specs::Moves::chosen, crate::specs::Moves::stood_down, crate::specs::Moves::is_above, crate::specs::Moves::preempted, crate::specs::Moves::readied, crate::specs::Moves::created, crate::specs::Moves::woken, crate::specs::Moves::went_to, crate::specs::Moves::yielded, crate::specs::Moves::regraded, crate::specs::Moves::ticked, crate::specs::Moves::removed, crate::specs::Moves::halted))]
 
-ghost use Rattle.std.specs.Prelude.{◌≡◌, true, false, get_or, set};
+ghost use Rattle.std.specs.Prelude.{◌≡◌, true, false};
 ghost use Rattle.queues.specs.Queue.{tables_of};
 ghost use Rattle.procs.specs.Stands.{numbers};
-ghost use Rattle.procs.specs.Moves.{unused_at, lowest_unused, first_of, fresh, runs, ranked, timed, marked, requeued, joined, fronted, gone, first_runs, chosen, stood_down, is_above, preempted, readied, created, woken, went_to, yielded, regraded, ticked, removed, halted};
+ghost use Rattle.procs.specs.Moves.{class_at, unused_at, lowest_unused, first_of, fresh, runs, ranked, timed, marked, requeued, joined, fronted, gone, first_runs, chosen, stood_down, is_above, preempted, readied, created, woken, went_to, yielded, regraded, ticked, removed, halted};
 
 use queues::Queues;
 use sizes::{Pid, Pids};
+use tables::{entry, set_entry};
 
 const PROCESSES: u8 = sizes::PROCESSES as u8;
 
 const CLASSES: u32 = sizes::CLASSES as u32;
 
-const ALL_BUT_0: u32 = 4294967294;
+const ALL_BUT_0: u32 = u32::MAX - 1;
 
 #[derive(Clone, Copy)]
 pub struct Procs {
@@ -27,40 +30,17 @@ pub struct Procs {
     pub unused: Pids,
 }
 
-// What a table, of classes, of ticks or of birth counts, has for p; 0 where p is no process.
-pub fn entry(t: [u8; sizes::PROCESSES], p: Pid) -> u8
-    ensures { result ≡ get_or t p.0 0 }
-{
-    if p.0 >= PROCESSES {
-        return 0;
-    }
-    let i = p.0 as usize;
-    t[i]
-}
-
-// The table with v for p.
-pub fn with_entry(mut t: [u8; sizes::PROCESSES], p: Pid, v: u8) -> [u8; sizes::PROCESSES]
-    ensures { result ≡ set t p.0 v }
-{
-    if p.0 < PROCESSES {
-        let i = p.0 as usize;
-        t[i] = v;
-    }
-    t
-}
-
 impl Procs {
     // 0 runs, and the others are unused.
+    #[tactic(auto, unfolding(queues::specs::Queue::tables_of, crate::specs::Stands::numbers, crate::specs::Moves::fresh, bits::specs::Word::word))]
     pub fn fresh() -> Procs
         ensures { numbers result ≡ fresh }
     {
-        let zeros = [0u8; sizes::PROCESSES];
-        let empty = Queues::fresh();
         Procs {
             running: Pid(0),
-            class: zeros,
-            ticks: zeros,
-            queues: empty,
+            class: [0; sizes::PROCESSES],
+            ticks: [0; sizes::PROCESSES],
+            queues: Queues::fresh(),
             ready: 0,
             unused: Pids(ALL_BUT_0),
         }
@@ -84,93 +64,87 @@ impl Procs {
     pub fn first(self, q: u32) -> Pid
         ensures { result.0 ≡ first_of (numbers self) q }
     {
-        let t = self.queues;
-        t.first(q)
+        self.queues.first(q)
     }
 
-    fn run(mut self, p: Pid) -> Procs
+    // The class of p, or 0 where p is no process.
+    pub fn class_of(self, p: Pid) -> u8
+        ensures { result ≡ class_at (numbers self) p.0 }
+    {
+        let class = self.class;
+        entry(&class, p.0 as usize, 0)
+    }
+
+    fn run(self, p: Pid) -> Procs
         ensures { numbers result ≡ runs p.0 (numbers self) }
     {
-        self.running = p;
-        self
+        Procs { running: p, ..self }
     }
 
-    pub fn set_class(mut self, p: Pid, c: u8) -> Procs
+    pub fn set_class(self, p: Pid, c: u8) -> Procs
         ensures { numbers result ≡ ranked p.0 c (numbers self) }
     {
-        let t = self.class;
-        let u = with_entry(t, p, c);
-        self.class = u;
-        self
+        let mut class = self.class;
+        set_entry(&mut class, p.0 as usize, c);
+        Procs { class, ..self }
     }
 
-    fn set_ticks(mut self, p: Pid, n: u8) -> Procs
+    fn set_ticks(self, p: Pid, n: u8) -> Procs
         ensures { numbers result ≡ timed p.0 n (numbers self) }
     {
-        let t = self.ticks;
-        let u = with_entry(t, p, n);
-        self.ticks = u;
-        self
+        let mut ticks = self.ticks;
+        set_entry(&mut ticks, p.0 as usize, n);
+        Procs { ticks, ..self }
     }
 
     // p's number is no longer unused.
-    fn claim(mut self, p: Pid) -> Procs
+    fn claim(self, p: Pid) -> Procs
         ensures { numbers result ≡ marked p.0 false (numbers self) }
     {
         let unused = Pids(bits::without_bit(self.unused.0, p.0 as u32));
-        self.unused = unused;
-        self
+        Procs { unused, ..self }
     }
 
     // p's number is unused again.
-    fn give_back(mut self, p: Pid) -> Procs
+    fn give_back(self, p: Pid) -> Procs
         ensures { numbers result ≡ marked p.0 true (numbers self) }
     {
         let unused = Pids(bits::with_bit(self.unused.0, p.0 as u32));
-        self.unused = unused;
-        self
+        Procs { unused, ..self }
     }
 
     // The queues become t, in which queue q has changed. If q is a class, its bit says whether anyone is ready there.
     fn requeue(mut self, q: u32, t: Queues) -> Procs
         ensures { numbers result ≡ requeued q (tables_of t) (numbers self) }
     {
-        let w = self.ready;
         self.queues = t;
-        if q >= CLASSES {
-            return self;
+        if q < CLASSES {
+            if t.is_empty(q) {
+                self.ready = bits::without_bit(self.ready, q);
+            } else {
+                self.ready = bits::with_bit(self.ready, q);
+            }
         }
-        if t.is_empty(q) {
-            self.ready = bits::without_bit(w, q);
-            return self;
-        }
-        self.ready = bits::with_bit(w, q);
         self
     }
 
     fn join_rear(self, q: u32, p: Pid) -> Procs
         ensures { numbers result ≡ joined q p.0 (numbers self) }
     {
-        let t = self.queues;
-        let u = t.join_rear(q, p);
-        self.requeue(q, u)
+        self.requeue(q, self.queues.join_rear(q, p))
     }
 
     fn join_front(self, q: u32, p: Pid) -> Procs
         ensures { numbers result ≡ fronted q p.0 (numbers self) }
     {
-        let t = self.queues;
-        let u = t.join_front(q, p);
-        self.requeue(q, u)
+        self.requeue(q, self.queues.join_front(q, p))
     }
 
     // p leaves queue q.
     fn leave(self, q: u32, p: Pid) -> Procs
         ensures { numbers result ≡ gone q p.0 (numbers self) }
     {
-        let t = self.queues;
-        let u = t.leave(p);
-        self.requeue(q, u)
+        self.requeue(q, self.queues.leave(p))
     }
 
     // The first of queue q leaves it and runs.
@@ -197,12 +171,10 @@ impl Procs {
         ensures { numbers result ≡ stood_down (numbers self) }
     {
         let p = self.running;
-        if p.0 == 0 {
+        if p == Pid(0) {
             return self;
         }
-        let class = self.class;
-        let c = entry(class, p);
-        self.join_front(c as u32, p).run(Pid(0))
+        self.join_front(self.class_of(p) as u32, p).run(Pid(0))
     }
 
     // Whether p's class is above the running one's, or 0 runs.
@@ -210,13 +182,7 @@ impl Procs {
         ensures { result ≡ is_above p.0 (numbers self) }
     {
         let r = self.running;
-        if r.0 == 0 {
-            return true;
-        }
-        let class = self.class;
-        let low = entry(class, r);
-        let high = entry(class, p);
-        low < high
+        r == Pid(0) || self.class_of(r) < self.class_of(p)
     }
 
     // p runs, and who ran stands down.
@@ -234,9 +200,7 @@ impl Procs {
         if self.is_above(p) {
             return full.preempt(p);
         }
-        let class = self.class;
-        let c = entry(class, p);
-        full.join_rear(c as u32, p)
+        full.join_rear(self.class_of(p) as u32, p)
     }
 
     // p, who is unused, becomes a process of a class and is made ready.
@@ -269,9 +233,7 @@ impl Procs {
     pub fn yield_now(self, slice: u8) -> Procs
         ensures { numbers result ≡ yielded slice (numbers self) }
     {
-        let class = self.class;
-        let c = entry(class, self.running);
-        self.go_to(c as u32, slice)
+        self.go_to(self.class_of(self.running) as u32, slice)
     }
 
     // The running process changes to class c: if it is of another, it joins the rear there with a full slice, and one is chosen.
@@ -279,8 +241,7 @@ impl Procs {
         ensures { numbers result ≡ regraded slice c (numbers self) }
     {
         let p = self.running;
-        let class = self.class;
-        if c == entry(class, p) {
+        if c == self.class_of(p) {
             return self;
         }
         self.set_class(p, c).go_to(c as u32, slice)
@@ -291,11 +252,11 @@ impl Procs {
         ensures { numbers result ≡ ticked slice (numbers self) }
     {
         let p = self.running;
-        if p.0 == 0 {
+        if p == Pid(0) {
             return self;
         }
         let ticks = self.ticks;
-        let n = entry(ticks, p);
+        let n = entry(&ticks, p.0 as usize, 0);
         if n > 1 {
             return self.set_ticks(p, n - 1);
         }
@@ -306,10 +267,8 @@ impl Procs {
     fn remove(self, p: Pid) -> Procs
         ensures { numbers result ≡ removed p.0 (numbers self) }
     {
-        let class = self.class;
-        let c = entry(class, p);
         self.give_back(p)
-            .leave(c as u32, p)
+            .leave(self.class_of(p) as u32, p)
             .set_class(p, 0)
             .set_ticks(p, 0)
     }
@@ -319,10 +278,10 @@ impl Procs {
         ensures { numbers result ≡ halted p.0 (numbers self) }
     {
         let rest = self.remove(p);
-        let r = self.running;
-        if r.0 == p.0 {
-            return rest.choose();
+        if self.running == p {
+            rest.choose()
+        } else {
+            rest
         }
-        rest
     }
 }

@@ -4,7 +4,9 @@ ghost use Rattle.std.specs.Prelude.{◌≡◌};
 ghost use Rattle.queues.specs.Lines.{line};
 ghost use Rattle.queues.specs.Noted.{noted};
 
-use crate::{NODES, PROCESSES};
+use rings::links::QUEUE_NODES;
+
+const PROCESSES: u8 = sizes::PROCESSES as u8;
 
 const QUEUES: u8 = sizes::QUEUES as u8;
 
@@ -12,7 +14,7 @@ const QUEUES: u8 = sizes::QUEUES as u8;
 pub const ONE_AHEAD: u32 = 65536;
 
 // Each process in queue q gets a note in the table: the mark, and so much more for each one ahead of it.
-pub fn note(next: &[u8; NODES], at: &mut [u32; sizes::PROCESSES], q: u8, mark: u16)
+pub fn note(next: &[u8; QUEUE_NODES], at: &mut [u32; sizes::PROCESSES], q: u8, mark: u16)
     ensures { at.new ≡ noted at.old mark (line next.now q) }
 {
     if QUEUES <= q {
@@ -21,8 +23,7 @@ pub fn note(next: &[u8; NODES], at: &mut [u32; sizes::PROCESSES], q: u8, mark: u
     let head = PROCESSES as usize + q as usize;
     let mut node = next[head];
     let mut word = mark as u32;
-    let mut passed: u8 = 0;
-    while passed < PROCESSES {
+    for _ in 0..PROCESSES {
         if PROCESSES <= node {
             return;
         }
@@ -30,6 +31,5 @@ pub fn note(next: &[u8; NODES], at: &mut [u32; sizes::PROCESSES], q: u8, mark: u
         at[i] = word;
         word += ONE_AHEAD;
         node = next[i];
-        passed += 1;
     }
 }

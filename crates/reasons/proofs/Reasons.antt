@@ -4,11 +4,11 @@ use Prim.Native.Nat.{ℕ, suc, ◌+◌, ◌-◌, ◌<◌}
 use mathlib.Core.Bool.{Bool, true, false, not}
 use mathlib.Core.List.{[], ◌∷◌}
 use mathlib.Core.Logic.{◌≢◌, ⊎_elim}
-use mathlib.Core.Path.{◌≡◌, refl, sym, ◌∙◌}
+use mathlib.Core.Path.{◌≡◌, refl, sym, ap, ◌∙◌}
 use native.Mathlib.Omega.{arith}
 use lib.Dec.{ltb}
 use borrow.Author.Tests.{eq-eqb, ne_eqb, not-false, lt-ltb}
-use Rattle.std.specs.Prelude.{if◌then◌else◌}
+use Rattle.std.specs.Prelude.{if◌then◌else◌, Some, None}
 use Rattle.lists.specs.Lists.{ahead}
 use Rattle.lists.proofs.Laws.{same?}
 use Rattle.rings.proofs.Laws.{placed, elsewhere}
@@ -29,15 +29,15 @@ use Rattle.rings.specs.Decides.{Decides}
 use Rattle.kernel.proofs.Judging.{runner_is, judged_by, refused_call, accepted_call, judged_passed}
 use Rattle.kernel.specs.Holds.{Holds, IsSound}
 use Rattle.kernel.specs.Judged.{Judged, refused_with}
+use Rattle.kernel.specs.declared.Answer.{Answer}
 use Rattle.kernel.specs.declared.Kernel.{Kernel}
-use Rattle.verdicts.specs.Chain.{found}
-use Rattle.verdicts.specs.declared.Verdict.{Verdict}
+use Rattle.verdicts.specs.Chain.{Verdict, found}
 use Rattle.rows.specs.Places.{spot, spot_in}
 use Rattle.rows.specs.declared.spots.Spot.{Spot}
 use Rattle.rows.proofs.Places.{spot_at, spot_in_lem, spot_none}
 use Rattle.reasons.specs.Numbered.{refusals, runner, reason_by, reason_at}
-use Rattle.reasons.specs.Reasons.{meant, Explains}
-use Rattle.reasons.specs.declared.Explained.{Explained}
+use Rattle.reasons.specs.Reasons.{meant, reason_told, Explains}
+use Rattle.reasons.specs.declared.Reason.{Reason}
 
 -- ---- the reason
 
@@ -100,11 +100,11 @@ module _ (k : Kernel) (n : ℕ) (v : Verdict) (j : Judged (refusals n) k v) wher
       let s : State = w.0.0 in
       (named s.births n (not-false (names s.births n) (w.2 s w.0.1 w.0.2).0)).0
 
-  pub refused : (w : Explained) → v.code ≢ 0 → w.answer ≡ (refused_with k v).answer → meant w.reason ≡ Plain.unused → Explains Holds k n w
+  pub refused : (a : Answer) → v.code ≢ 0 → a ≡ (refused_with k v).answer → Explains Holds k n (record { answer = a; reason = None })
   unfolding Plain.why
-  refused w d e u = rw e (refused_call (refusals n) (Calls.done 0) (λ s. meant w.reason ≡ Plain.told s n) (meant w.reason ≡ Plain.unused) k v (proper n) d j (λ s z. u ∙ sym (rw z)) u)
+  refused a d e = rw e (refused_call (refusals n) (Calls.done 0) (λ s. None ≡ reason_told s n) (None ≡ None) k v (proper n) d j (λ s z. sym (rw z)) refl)
 
-  pub accepted : (w : Explained) → v.code ≡ 0 → w.answer ≡ (refused_with k v).answer → meant w.reason ≡ reason_at (Stands.numbers k.procs) (bare n) → Explains Holds k n w
+  pub accepted : (a : Answer) (r : Reason) → v.code ≡ 0 → a ≡ (refused_with k v).answer → meant r ≡ reason_at (Stands.numbers k.procs) (bare n) → Explains Holds k n (record { answer = a; reason = Some r })
   unfolding Plain.why
-  accepted w z e m = rw e (accepted_call (refusals n) (Calls.done 0) (λ s. meant w.reason ≡ Plain.told s n) (meant w.reason ≡ Plain.unused) k v (proper n) z j (refused_with k v)
-      (λ s H S q is. rw (judged_passed (proper n) z j).1 (record { next = H; answer = rw (runner_is k s H) refl }, m ∙ reason_is H (bare n) ∙ sym (rw is))))
+  accepted a r z e m = rw e (accepted_call (refusals n) (Calls.done 0) (λ s. Some (meant r) ≡ reason_told s n) (Some r ≡ None) k v (proper n) z j (refused_with k v)
+      (λ s H S q is. rw (judged_passed (proper n) z j).1 (record { next = H; answer = rw (runner_is k s H) refl }, ap Some (m ∙ reason_is H (bare n)) ∙ sym (rw is))))

@@ -1,6 +1,7 @@
 -- What a reason of the code means, and the promise of the question why a process waits.
 -- Assumes nothing.
-use Rattle.std.specs.Prelude.{ℕ, ◌≡◌}
+use Rattle.std.specs.Prelude.{ℕ, ◌≡◌, Option, Some, None, eqb, if◌then◌else◌}
+use Rattle.plain.specs.Names.{bare}
 use Rattle.plain.specs.State.{State}
 use Rattle.plain.specs.Why as Plain
 use Rattle.promise.specs.Promise.{Asks}
@@ -25,6 +26,14 @@ given n = record { kind = n.kind; which = n.which; ahead = n.ahead }
 
 -- ---- the promise
 
--- Why the process named n waits is asked of a k and answered with w, a question. Where it is refused the reason is the one whose numbers are zeros.
+abbrev pub meant_by : Option Reason → Option Plain.Reason
+meant_by (Some r) = Some (meant r)
+meant_by None = None
+
+-- the plain kernel's reason for the process named n; none where it refuses the question
+abbrev pub reason_told : State → ℕ → Option Plain.Reason
+reason_told s n = if eqb (Plain.why s n).answer.code 0 then Some (Plain.reason s (bare n)) else None
+
+-- Why the process named n waits is asked of a k and answered with w, a question. Where it is refused there is no reason.
 abbrev pub Explains : {K : Type 0} → (K → State → Type 0) → K → ℕ → Explained → Type 0
-Explains Holds k n w = Asks Holds (λ s. Plain.why s n) (λ s. meant w.reason ≡ Plain.told s n) (meant w.reason ≡ Plain.unused) k (said w.answer)
+Explains Holds k n w = Asks Holds (λ s. Plain.why s n) (λ s. meant_by w.reason ≡ reason_told s n) (w.reason ≡ None) k (said w.answer)

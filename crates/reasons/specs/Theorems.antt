@@ -1,6 +1,6 @@
 -- The theorems about the question, as statements over its promise. Each is proved under its own name in proofs/Theorems.antt.
 -- Assumes nothing.
-use Rattle.std.specs.Prelude.{ℕ, true, ◌≡◌}
+use Rattle.std.specs.Prelude.{ℕ, true, ◌≡◌, Some, None}
 use Rattle.plain.specs.Names.{bare, names}
 use Rattle.plain.specs.Sound.{Sound}
 use Rattle.plain.specs.State.{State}
@@ -9,7 +9,7 @@ use Rattle.plain.specs.Why.{Reason, Says}
 use Rattle.promise.specs.Asked.{Anywhere}
 use Rattle.kernel.specs.Promise.{said}
 use Rattle.reasons.specs.declared.Explained.{Explained}
-use Rattle.reasons.specs.Reasons.{meant, Explains}
+use Rattle.reasons.specs.Reasons.{meant_by, reason_told, Explains}
 
 -- 1. No second answer and no second reason, whatever is asked: of a struct or of an area, sound or not, and by any name.
 abbrev pub OneExplanation : Type 1
@@ -21,8 +21,8 @@ pub record IsTrue (s : State) (p : ℕ) (r : Reason) : Type 0 where
   pub only : (r' : Reason) → Says s.procs p r' → r' ≡ r
 
 abbrev pub TrueReason : Type 1
-TrueReason = (K : Type 0) (Holds : K → State → Type 0) (k : K) (s : State) (n : ℕ) (w : Explained) → Holds k s → Sound s → names s.births n ≡ true → Explains Holds k n w → IsTrue s (bare n) (meant w.reason)
+TrueReason = (K : Type 0) (Holds : K → State → Type 0) (k : K) (s : State) (n : ℕ) (w : Explained) → Holds k s → Sound s → names s.births n ≡ true → Explains Holds k n w → (r : Reason) × (meant_by w.reason ≡ Some r) × IsTrue s (bare n) r
 
 -- 3. Demand 2 (docs/KERNEL.md): at any moment of a run the plain kernel's answer and reason of the state reached then are given.
 abbrev pub ExplainedAnywhere : Type 1
-ExplainedAnywhere = (K : Type 0) (Holds : K → State → Type 0) (n : ℕ) (w : Explained) → Anywhere Holds (λ s. Plain.why s n) (λ s. meant w.reason ≡ Plain.told s n) (meant w.reason ≡ Plain.unused) (said w.answer)
+ExplainedAnywhere = (K : Type 0) (Holds : K → State → Type 0) (n : ℕ) (w : Explained) → Anywhere Holds (λ s. Plain.why s n) (λ s. meant_by w.reason ≡ reason_told s n) (w.reason ≡ None) (said w.answer)

@@ -8,15 +8,16 @@ ghost use Rattle.plain.specs.Why as Plain;
 ghost use Rattle.procs.specs.Stands as Stands;
 ghost use Rattle.kernel.specs.Holds.{Holds};
 ghost use Rattle.kernel.specs.Judged.{Judged};
+ghost use Rattle.verdicts.specs.Told.{told};
 ghost use Rattle.reasons.specs.Numbered.{runner, reason_by, reason_at, refusals};
 ghost use Rattle.reasons.specs.Reasons.{meant, given, Explains};
 
 use kernel::{Answer, Kernel};
-use procs::{Procs, entry};
+use procs::Procs;
 use rows::spots::{Spot, spot_of};
 use rows::{AT_MAILBOX, AT_SEMAPHORE, READY};
 use sizes::Pid;
-use verdicts::Verdict;
+use verdicts::Refusal;
 
 #[derive(Clone, Copy)]
 pub enum Reason {
@@ -31,11 +32,11 @@ pub enum Reason {
     Behind(u8),
 }
 
-// A reason beside the answer. Where the question is refused it is Unused, whose numbers are zeros.
+// A reason beside the answer; none where the question is refused.
 #[derive(Clone, Copy)]
 pub struct Explained {
     pub answer: Answer,
-    pub reason: Reason,
+    pub reason: Option<Reason>,
 }
 
 // Which kind of reason, which mailbox, semaphore or process, and how many are ahead.
@@ -74,10 +75,7 @@ fn ready(running: Pid, class: u8, c: u8, ahead: u8) -> Reason
     requires { ahead ≤ processes }
     ensures { meant result ≡ (if Plain.is_runner_of (runner running.0 class) c then Plain.ready (suc ahead) else Plain.behind running.0) }
 {
-    if running.0 == 0 {
-        return Reason::Behind(running.0);
-    }
-    if class != c {
+    if running.0 == 0 || class != c {
         return Reason::Behind(running.0);
     }
     Reason::Ready(ahead + 1)
@@ -103,25 +101,19 @@ fn reason_at(running: Pid, class: u8, s: Spot) -> Reason
 fn reason_of(k: Procs, p: Pid) -> Reason
     ensures { meant result ≡ reason_at (Stands.numbers k) p.0 }
 {
-    let running = k.running;
-    if p.0 == running.0 {
+    if p == k.running {
         return Reason::Running;
     }
     if p.0 == 0 {
-        return Reason::Behind(running.0);
+        return Reason::Behind(k.running.0);
     }
-    let class = k.class;
-    let queues = k.queues;
-    let next = queues.next;
-    let at = spot_of(next, p);
-    reason_at(running, entry(class, running), at)
+    reason_at(k.running, k.class_of(k.running), spot_of(k.queues.next, p))
 }
 
-fn judge(k: Kernel, name: u32) -> Verdict
-    ensures { Judged (refusals name) k result }
+fn judge(k: Kernel, name: u32) -> Result<(), Refusal>
+    ensures { Judged (refusals name) k (told result) }
 {
-    let births = k.births;
-    verdicts::on_why(k.facts(), names::is_name(births, name))
+    verdicts::on_why(k.facts(), names::is_name(k.births, name))
 }
 
 // Why the process of that name waits.
@@ -129,15 +121,14 @@ pub fn why(k: Kernel, name: u32) -> Explained
     ensures { Explains Holds k name result }
 {
     let v = judge(k, name);
-    let answer = k.answer_to(v);
-    if v.code != 0 {
+    let answer = k.answer_found(v);
+    if v.is_err() {
         return Explained {
             answer,
-            reason: Reason::Unused,
+            reason: None,
         };
     }
-    let procs = k.procs;
     let p = names::bare(name);
-    let reason = reason_of(procs, Pid(p as u8));
+    let reason = Some(reason_of(k.procs, Pid(p as u8)));
     Explained { answer, reason }
 }

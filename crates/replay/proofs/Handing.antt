@@ -1,11 +1,11 @@
 -- Chunks and reads one after another.
 -- Assumes nothing.
-use Prim.Native.Nat.{ℕ, ◌+◌, ◌-◌, ◌≤◌}
+use Prim.Native.Nat.{ℕ, ◌≤◌}
 use mathlib.Core.List.{List, [], ◌∷◌, ◌++◌, append_assoc, append-nil}
-use mathlib.Core.Path.{◌≡◌, sym}
+use mathlib.Core.Path.{◌≡◌, refl, sym, ◌∙◌}
 use native.Mathlib.Omega.{arith}
-use lib.ListN.{length, take, drop}
-use lib.Seq.{take-add, take-take, take_all, length-take-le}
+use lib.ListN.{length, take, drop, length-append, take-append-drop}
+use lib.Seq.{take-take, take-append_seam, length-take-le}
 use Rattle.std.specs.Prelude.{Result, Ok, Err, OnErr}
 use Rattle.answers.proofs.AreaLaws.{written_within}
 use Rattle.desk.specs.declared.Turn.{Turn}
@@ -15,8 +15,9 @@ use Rattle.feed.specs.declared.Ongoing.{Ongoing}
 use Rattle.feed.specs.declared.Fed.{Fed}
 use Rattle.feed.proofs.BufferLaws.{empty}
 use Rattle.feed.proofs.Theorems.{chunks}
-use Rattle.replay.specs.Replays.{Handed, all_of, Replays}
-use Rattle.replay.specs.Broken.{Broken, BrokenReplay}
+use Rattle.replay.specs.Replays.{Handed, Hands, all_of, Replays}
+use Rattle.replay.specs.Broken.{Broken, Breaks, BrokenReplay}
+use Rattle.replay.specs.declared.Session.{Session}
 
 chunks_append : {o o' o'' : Ongoing} {store line store' line' store'' line'' b₁ b₂ w₁ w₂ : List ℕ} → Chunks o store line b₁ w₁ o' store' line' → Chunks o' store' line' b₂ w₂ o'' store'' line'' → Chunks o store line (b₁ ++ b₂) (w₁ ++ w₂) o'' store'' line''
 chunks_append Chunks.none d = d
@@ -29,18 +30,30 @@ none = record { written = []; chunks = Chunks.none }
 handed : {o o' o'' : Ongoing} {store line store' line' store'' line'' b₁ b₂ : List ℕ} → Handed o store line b₁ o' store' line' → Handed o' store' line' b₂ o'' store'' line'' → Handed o store line (b₁ ++ b₂) o'' store'' line''
 handed a b = record { written = a.written ++ b.written; chunks = chunks_append a.chunks b.chunks }
 
--- a call of `feed` with what is left of a chunk
-pub further : {o₀ o : Ongoing} {store₀ line₀ store line store' line' out out' : List ℕ} (bytes : List ℕ) (from : ℕ) (r : Fed) → r.used ≤ length bytes - from → Handed o₀ store₀ line₀ (take from bytes) o store line
-    → Feeds store line (take (length bytes - from) (drop from bytes)) out o store' line' out' r → Handed o₀ store₀ line₀ (take (from + r.used) bytes) r.next store' line'
-further {out = out} {out' = out'} bytes from r within a f =
-    let left : List ℕ = take (length bytes - from) (drop from bytes) in
-    let more : Handed _ _ _ (take r.used left ++ []) r.next _ _ = record { written = take r.wrote out' ++ []; chunks = Chunks.more left out out' r f Chunks.none } in
-    let e : take from bytes ++ (take r.used left ++ []) ≡ take (from + r.used) bytes =
-    rw (append-nil (take r.used left), take-take r.used (length bytes - from) (drop from bytes) within) (sym (take-add from r.used bytes)) in
-    rw e at (handed a more)
+-- ---- a chunk under way
 
-pub all : {o o' : Ongoing} {store line bytes store' line' : List ℕ} (n : ℕ) → length bytes ≤ n → Handed o store line (take n bytes) o' store' line' → Handed o store line bytes o' store' line'
-all {bytes = bytes} n h a = rw (take_all n bytes h) at a
+-- what is in front of the rest is handed over
+pub record Front (a : Session) (bytes rest : List ℕ) (b : Session) : Type 0 where
+  pub front : List ℕ
+  pub whole : bytes ≡ front ++ rest
+  pub handed : Hands a front b
+
+pub at_front : (a : Session) (bytes : List ℕ) → Front a bytes bytes a
+at_front a bytes = record { front = []; whole = refl; handed = none }
+
+-- a call of `feed` with what is left of a chunk
+pub further : {a b b' : Session} {bytes rest left : List ℕ} (r : Fed) → Front a bytes rest b → Feeds b.store b.line rest b.out b.ongoing b'.store b'.line b'.out r → b'.ongoing ≡ r.next → left ≡ drop r.used rest → Front a bytes left b'
+further {b = b} {b' = b'} {rest = rest} r f fed next behind =
+    let more : Handed b.ongoing b.store b.line (take r.used rest ++ []) r.next b'.store b'.line = record { written = take r.wrote b'.out ++ []; chunks = Chunks.more rest b.out b'.out r fed Chunks.none } in
+    record {
+      front = f.front ++ take r.used rest;
+      whole = f.whole ∙ rw (behind, append_assoc f.front (take r.used rest) (drop r.used rest), take-append-drop r.used rest);
+      handed = rw next (handed f.handed (rw (append-nil (take r.used rest)) at more));
+    }
+
+pub all_handed : {a b : Session} {bytes rest : List ℕ} → Front a bytes rest b → length rest ≡ 0 → Hands a bytes b
+all_handed {rest = []} f none = rw (f.whole, append-nil f.front) f.handed
+all_handed {rest = x ∷ rest} f none = absurd (omega arith)
 
 -- a read more
 all_append : (reads : List (List ℕ)) (read : List ℕ) → all_of (reads ++ (read ∷ [])) ≡ all_of reads ++ read
@@ -67,8 +80,13 @@ on_err (Err e) p = p
 pub unread : {o : Ongoing} {store line : List ℕ} (bytes : List ℕ) → Broken o store line bytes store line
 unread {o} bytes = record { taken = 0; within = omega arith; next = o; handed = none }
 
-pub unwritten : {o o' : Ongoing} {store line bytes store' line' : List ℕ} (taken : ℕ) → taken ≤ length bytes → Handed o store line (take taken bytes) o' store' line' → Broken o store line bytes store' line'
-unwritten {o' = o'} taken h a = record { taken = taken; within = h; next = o'; handed = a }
+pub unwritten : {a b : Session} {bytes rest : List ℕ} → Front a bytes rest b → Breaks a bytes b
+unwritten {b = b} {rest = rest} f = record {
+  taken = length f.front;
+  within = rw (f.whole, length-append f.front rest) (omega arith);
+  next = b.ongoing;
+  handed = rw (f.whole, take-append_seam f.front rest) f.handed;
+}
 
 pub broken_within : {o : Ongoing} {store line bytes store' line' : List ℕ} (n : ℕ) → n ≤ length bytes → Broken o store line (take n bytes) store' line' → Broken o store line bytes store' line'
 broken_within {bytes = bytes} n h b =

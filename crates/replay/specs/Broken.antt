@@ -3,6 +3,7 @@
 use Rattle.std.specs.Prelude.{ℕ, ◌≤◌, List, length, take}
 use Rattle.desk.specs.declared.Turn.{Turn}
 use Rattle.feed.specs.declared.Ongoing.{Ongoing}
+use Rattle.replay.specs.declared.Session.{Session}
 use Rattle.replay.specs.Replays.{Handed, Replays, WholeReplay}
 
 -- so many of these bytes have been taken, from the front
@@ -21,3 +22,13 @@ pub record BrokenReplay (store line store' line' : List ℕ) : Type 0 where
 pub data BrokenInput (store line store' line' : List ℕ) : Type 0 where
   before_the_end : BrokenReplay store line store' line' → BrokenInput store line store' line'
   at_the_end : {r : Turn} → WholeReplay store' r → BrokenInput store line store' line'
+
+-- the same of a session, before and after
+abbrev pub Breaks : Session → List ℕ → Session → Type 0
+Breaks a bytes b = Broken a.ongoing a.store a.line bytes b.store b.line
+
+abbrev pub BreaksReplay : Session → Session → Type 0
+BreaksReplay a b = BrokenReplay a.store a.line b.store b.line
+
+abbrev pub BreaksInput : Session → Session → Type 0
+BreaksInput a b = BrokenInput a.store a.line b.store b.line

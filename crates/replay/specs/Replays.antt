@@ -5,9 +5,7 @@ use Rattle.desk.specs.declared.Turn.{Turn}
 use Rattle.feed.specs.Takes.{FromFresh}
 use Rattle.feed.specs.Theorems.{Chunks, Whole}
 use Rattle.feed.specs.declared.Ongoing.{Ongoing}
-
-abbrev pub out_size : ℕ
-out_size = 65536
+use Rattle.replay.specs.declared.Session.{Session}
 
 -- every byte of these has been taken, in one chunk or several; `written` is what stood at the start of the area after each, in order
 pub record Handed (o : Ongoing) (store line bytes : List ℕ) (o' : Ongoing) (store' line' : List ℕ) : Type 0 where
@@ -19,12 +17,19 @@ abbrev pub all_of : List (List ℕ) → List ℕ
 all_of [] = []
 all_of (r ∷ rs) = r ++ all_of rs
 
+-- the same of a session, before and after
+abbrev pub Hands : Session → List ℕ → Session → Type 0
+Hands a bytes b = Handed a.ongoing a.store a.line bytes b.ongoing b.store b.line
+
 -- from one fresh start on, every byte of every read
 pub record Replays (store line : List ℕ) (o' : Ongoing) (store' line' : List ℕ) : Type 0 where
   pub first : Ongoing
   pub fresh : FromFresh first
   pub reads : List (List ℕ)
   pub handed : Handed first store line (all_of reads) o' store' line'
+
+abbrev pub Runs : Session → Session → Type 0
+Runs a b = Replays a.store a.line b.ongoing b.store b.line
 
 -- what was put into the area to be written is what the plain kernel's desk writes for the lines of all the reads, and the desk and the store are where it stands then
 pub record WholeReplay (store' : List ℕ) (r : Turn) : Type 0 where

@@ -70,12 +70,6 @@ module _ (next : List ℕ) (place first : ℕ) where
       (λ (d : i ≢ count). noted_off _ _ (line next (first + count)) p (z count (λ e. d (sym e))) ∙ swept-on count t p i h (omega arith) o z)
       (same? i count)
 
--- ---- everyone
-
-pub everyone-length : (next : List ℕ) → length (everyone next) ≡ processes
-unfolding everyone
-everyone-length next = swept-length next 4 (classes + mailboxes) semaphores _ ∙ swept-length next 3 classes mailboxes _ ∙ swept-length next 2 0 classes _ ∙ length-replicate {A = ℕ} processes 0
-
 -- ---- in tables that hold queues
 
 -- in queue q with n ahead

@@ -13,7 +13,7 @@ use mir.Syntax.{w16}
 use mir.Val.{Fits}
 use borrow.Author.Tests.{eq-eqb, ne_eqb, lt-ltb}
 use Rattle.bits.specs.Word.{bit}
-use Rattle.std.specs.Prelude.{if◌then◌else◌}
+use Rattle.std.specs.Prelude.{Some, None, is_some, unwrap_or, if◌then◌else◌}
 use Rattle.lists.specs.Lists.{ahead}
 use Rattle.lists.proofs.Laws.{same?}
 use Rattle.rings.proofs.Laws.{placed, elsewhere}
@@ -36,7 +36,6 @@ use Rattle.rows.specs.Rows.{null_row, held_by, row_with, row_of, row_in, Shows}
 use Rattle.rows.specs.declared.Row.{Row}
 use Rattle.rows.specs.declared.spots.Spot.{Spot}
 use Rattle.rows.specs.declared.Table.{Table}
-use Rattle.rows.proofs.Filled.{filled, filled-length, among}
 use Rattle.rows.proofs.Places.{spot_at, spot_in_lem, spot_none}
 
 -- a length that is read fits where the lengths do
@@ -48,6 +47,23 @@ length_fits k p f = go (has_message k p)
     go true = f (hand_at k p)
     go false = omega arith
 
+full_by : (m : Carries.Numbers) (p : ℕ) → bit (is_some (held_by m p)) ≡ bit (has_message m p)
+unfolding held_by
+full_by m p = go (has_message m p)
+  where
+    go : (full : Bool) → bit (is_some (if full then Some (length_in_hand m p) else None)) ≡ bit full
+    go true = refl
+    go false = refl
+
+-- who has no message has one of no bytes
+length_by : (m : Carries.Numbers) (p : ℕ) → unwrap_or (held_by m p) 0 ≡ length_in_hand m p
+unfolding held_by length_in_hand
+length_by m p = go (has_message m p)
+  where
+    go : (full : Bool) → unwrap_or (if full then Some (if full then length_at m (hand_at m p) else 0) else None) 0 ≡ (if full then length_at m (hand_at m p) else 0)
+    go true = refl
+    go false = refl
+
 bit_full : (empty : Bool) → bit (not empty) ≡ (if empty then 0 else 1)
 bit_full true = refl
 bit_full false = refl
@@ -58,12 +74,11 @@ module _ {k : Kernel} {s : State} (H : Holds k s) (p : ℕ) where
 
   -- the columns that do not depend on the place
   with_is : (x : Spot) → row_with x (class_at n p) (ticks_at n p) (held_by (Carries.numbers k.mail) p) ≡ as_row (Plain.row_as s p x.place x.which x.position)
-  unfolding held_by
   with_is x =
       let c = H.procs.stands.class p in
       let t = H.procs.stands.ticks p in
-      let f = ap bit (has_message_lem H.mail p) ∙ bit_full (is_empty (s.hand p)) in
-      let l = length_in_hand_lem H.mail p in
+      let f = full_by (Carries.numbers k.mail) p ∙ ap bit (has_message_lem H.mail p) ∙ bit_full (is_empty (s.hand p)) in
+      let l = length_by (Carries.numbers k.mail) p ∙ length_in_hand_lem H.mail p in
       λ i. record { place = x.place; which = x.which; position = x.position; class = c i; ticks = t i; full = f i; length = l i }
 
   -- in queue q, with so many ahead
@@ -125,15 +140,12 @@ module _ (k : Kernel) (at : List ℕ) where
   unfolding Stands.numbers
   by_is found p h = ap (λ (x : Spot). row_with x (get_or k.procs.class p 0) (get_or k.procs.ticks p 0) (held_by (Carries.numbers k.mail) p)) (found p h)
 
-  pub made : {l : List Row} {r : Row} {n : ℕ} (ys : List Row) → Spots (spot_of (Stands.numbers k.procs)) at → n ≡ processes → l ≡ filled ys row_by n → length ys ≡ processes → r ≡ null_row k.procs.running.0 → Each (row_in k) (set l 0 r)
+  pub made : (l : List Row) {r : Row} → Spots (spot_of (Stands.numbers k.procs)) at → length l ≡ processes → ((p : ℕ) (d : Row) → p < processes → get_or l p d ≡ row_by p) → r ≡ null_row k.procs.running.0 → Each (row_in k) (set l 0 r)
   unfolding row_in
-  made {l} {r} {n} ys found e is long null =
-      let whole : l ≡ filled ys row_by processes = is ∙ ap (filled ys row_by) e in
-      let size : length l ≡ processes = ap length whole ∙ filled-length ys row_by processes ∙ long in
-      record {
-        long = length-set l 0 r ∙ size;
-        at = λ p d h. ⊎_elim
-            (λ (z : p ≡ 0). rw (z) (get_or-set_same l 0 r d (omega (arith, size)) ∙ null))
-            (λ (m : p ≢ 0). rw (ne_eqb p 0 m) (get_or-set_other l 0 p r d m ∙ ap (λ (x : List Row). get_or x p d) whole ∙ among ys row_by processes p d h (omega (arith, long)) ∙ by_is found p h))
-            (same? p 0);
-      }
+  made l {r} found long each null = record {
+    long = length-set l 0 r ∙ long;
+    at = λ p d h. ⊎_elim
+        (λ (z : p ≡ 0). rw (z) (get_or-set_same l 0 r d (omega (arith, long)) ∙ null))
+        (λ (m : p ≢ 0). rw (ne_eqb p 0 m) (get_or-set_other l 0 p r d m ∙ each p d h ∙ by_is found p h))
+        (same? p 0);
+  }

@@ -1,6 +1,6 @@
 -- The promise about the rows: for any struct in its numbers, and the plain kernel's rows where the struct holds a plain state.
 -- Assumes nothing.
-use Rattle.std.specs.Prelude.{ℕ, eqb, if◌then◌else◌}
+use Rattle.std.specs.Prelude.{ℕ, eqb, Option, Some, None, is_some, unwrap_or, if◌then◌else◌}
 use Rattle.bits.specs.Word.{bit}
 use Rattle.plain.specs.Listing as Plain
 use Rattle.plain.specs.State.{State}
@@ -12,7 +12,6 @@ use Rattle.kernel.specs.Holds.{Holds}
 use Rattle.kernel.specs.declared.Kernel.{Kernel}
 use Rattle.rows.specs.Places.{spot_of}
 use Rattle.rows.specs.Row.{as_row, bare, Each}
-use Rattle.rows.specs.declared.Held.{Held}
 use Rattle.rows.specs.declared.Row.{Row}
 use Rattle.rows.specs.declared.spots.Spot.{Spot}
 use Rattle.rows.specs.declared.Table.{Table}
@@ -21,19 +20,20 @@ use Rattle.rows.specs.declared.Table.{Table}
 abbrev pub null_row : ℕ → Row
 null_row running = bare (if eqb running 0 then 1 else 5)
 
--- "1 if the hand is full, length in hand"
-unfoldable pub held_by : Carries.Numbers → ℕ → Held
-held_by m p = record { full = bit (has_message m p); length = length_in_hand m p }
+-- the length in hand of who has a message
+unfoldable pub held_by : Carries.Numbers → ℕ → Option ℕ
+held_by m p = if has_message m p then Some (length_in_hand m p) else None
 
-abbrev pub row_with : Spot → ℕ → ℕ → Held → Row
+-- "1 if the hand is full, length in hand"
+abbrev pub row_with : Spot → ℕ → ℕ → Option ℕ → Row
 row_with s class ticks hand = record {
   place = s.place;
   which = s.which;
   position = s.position;
   class = class;
   ticks = ticks;
-  full = hand.full;
-  length = hand.length;
+  full = bit (is_some hand);
+  length = unwrap_or hand 0;
 }
 
 -- the row of any process but 0

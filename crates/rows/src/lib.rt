@@ -15,7 +15,7 @@ use sizes::Pid;
 
 pub mod spots;
 
-// The places of a row.
+// The places of a row: numbers, since C reads them in its first column.
 pub const UNUSED: u8 = 0;
 
 pub const RUNNING: u8 = 1;
@@ -38,13 +38,6 @@ pub struct Row {
     pub ticks: u8,
     pub full: u8,
     pub length: u16,
-}
-
-// The last two columns of a row.
-#[derive(Clone, Copy)]
-struct Held {
-    full: u8,
-    length: u16,
 }
 
 // A row for each process, row i for process i.
@@ -78,6 +71,17 @@ fn null_row(running: Pid) -> Row
     bare(STANDING_BY)
 }
 
+// The length of the message in the hand of p, where there is one.
+fn hand_of(mail: Mail, p: Pid) -> Option<u16>
+    ensures { result ≡ held_by (Carries.numbers mail) p.0 }
+{
+    if mail.has_message(p) {
+        Some(length_in_hand(mail, p))
+    } else {
+        None
+    }
+}
+
 // The length of the message in the hand of p.
 fn length_in_hand(mail: Mail, p: Pid) -> u16
     ensures { result ≡ length_in_hand (Carries.numbers mail) p.0 }
@@ -85,19 +89,7 @@ fn length_in_hand(mail: Mail, p: Pid) -> u16
     mail.length_in_hand(p) as u16
 }
 
-fn hand_of(mail: Mail, p: Pid) -> Held
-    ensures { result ≡ held_by (Carries.numbers mail) p.0 }
-{
-    if mail.has_message(p) {
-        return Held {
-            full: 1,
-            length: length_in_hand(mail, p),
-        };
-    }
-    Held { full: 0, length: 0 }
-}
-
-fn row_with(s: Spot, class: u8, ticks: u8, hand: Held) -> Row
+fn row_with(s: Spot, class: u8, ticks: u8, hand: Option<u16>) -> Row
     ensures { result ≡ row_with s class ticks hand }
 {
     Row {
@@ -106,8 +98,8 @@ fn row_with(s: Spot, class: u8, ticks: u8, hand: Held) -> Row
         position: s.position,
         class,
         ticks,
-        full: hand.full,
-        length: hand.length,
+        full: hand.is_some() as u8,
+        length: hand.unwrap_or(0),
     }
 }
 
@@ -115,24 +107,16 @@ fn row_with(s: Spot, class: u8, ticks: u8, hand: Held) -> Row
 pub fn table_of(k: Kernel) -> Table
     ensures { Shows k result }
 {
-    let procs = k.procs;
-    let mail = k.mail;
-    let class = procs.class;
-    let ticks = procs.ticks;
-    let running = procs.running;
-    let at = spots_of(procs);
-    let zeros = bare(UNUSED);
-    let mut rows = [zeros; sizes::PROCESSES];
-    let mut i = 0;
-    while i < sizes::PROCESSES {
+    let at = spots_of(k.procs);
+    let mut rows = [bare(UNUSED); sizes::PROCESSES];
+    for i in 0..sizes::PROCESSES {
         rows[i] = row_with(
             spot_from(at[i]),
-            class[i],
-            ticks[i],
-            hand_of(mail, Pid(i as u8)),
+            k.procs.class[i],
+            k.procs.ticks[i],
+            hand_of(k.mail, Pid(i as u8)),
         );
-        i += 1;
     }
-    rows[0] = null_row(running);
+    rows[0] = null_row(k.procs.running);
     Table { rows }
 }

@@ -7,7 +7,7 @@ ghost use Rattle.procs.specs.Stands as Stands;
 ghost use Rattle.rows.specs.Places.{spot, coded, spot_from, swept, everyone, spot_in, spot_of, Spots};
 
 use crate::{AT_MAILBOX, AT_SEMAPHORE, READY, RUNNING};
-use procs::{Procs, entry};
+use procs::Procs;
 use queues::bytes_of;
 use queues::notes::{ONE_AHEAD, note};
 use sizes::Pid;
@@ -49,10 +49,8 @@ fn sweep(next: &[u8; NODES], at: &mut [u32; PROCESSES], place: u8, first: u8, co
     requires { first + count ≤ queues }
     ensures { at.new ≡ swept next.now place first count at.old }
 {
-    let mut i: u8 = 0;
-    while i < count {
+    for i in 0..count {
         note(next, at, first + i, mark(place, i));
-        i += 1;
     }
 }
 
@@ -84,11 +82,7 @@ pub fn spot_of(next: [Pid; NODES], p: Pid) -> Spot
     ensures { result ≡ spot_in (map num next) p.0 }
 {
     let at = everyone(next);
-    let i = p.0 as usize;
-    if PROCESSES <= i {
-        return spot_from(0);
-    }
-    spot_from(at[i])
+    spot_from(at.get(p.0 as usize).copied().unwrap_or(0))
 }
 
 // With the spot of the one that runs, of that class.
@@ -106,9 +100,5 @@ fn with_runner(mut at: [u32; PROCESSES], running: Pid, class: u8) -> [u32; PROCE
 pub(crate) fn spots_of(k: Procs) -> [u32; PROCESSES]
     ensures { Spots (spot_of (Stands.numbers k)) result }
 {
-    let running = k.running;
-    let class = k.class;
-    let queues = k.queues;
-    let next = queues.next;
-    with_runner(everyone(next), running, entry(class, running))
+    with_runner(everyone(k.queues.next), k.running, k.class_of(k.running))
 }

@@ -1,111 +1,73 @@
 -- Laws of hex pairs: two digits at a time, how many bytes so many digits spell, and which.
 -- Assumes nothing.
-use Prim.Native.Nat.{ℕ, zero, suc, ◌+◌, ◌*◌, ◌-◌, ◌/◌, ◌%◌, ◌≤◌, ◌<◌}
-use Prim.Native.Char.{code}
+use Prim.Native.Nat.{ℕ, zero, suc, ◌+◌, ◌*◌, ◌/◌, ◌≤◌, ◌<◌, min}
 use mathlib.Core.Path.{◌≡◌, refl, ap, ◌∙◌}
-use mathlib.Core.Bool.{Bool, true, false, ◌&&◌, false≢true}
-use mathlib.Core.List.{List, [], ◌∷◌}
+use mathlib.Core.Bool.{false}
+use mathlib.Core.List.{List, [], ◌∷◌, ◌++◌}
 use mathlib.Core.Option.{Option, none, some}
 use native.Mathlib.Omega.{arith}
-use lib.ListN.{length, get_or, drop, length-drop, drop_of_length-le}
-use lib.Seq.{drop-drop}
-use lib.Dec.{leb}
-use borrow.Author.Tests.{leb-true, le-leb, lt-leb}
-use Rattle.std.specs.Prelude.{if◌then◌else◌}
+use lib.ListN.{length, get_or, drop, length-append}
+use borrow.Author.Tests.{le-leb, lt-leb}
+use Rattle.std.specs.Prelude as Code
+use Rattle.std.specs.Prelude.{if◌then◌else◌, Some, None, option_map, unwrap_or}
 use Rattle.answers.specs.Ascii.{ascii}
-use Rattle.script.specs.Grammar.{is_digit, hex_digit, byte, prepend, pairs, at_most, bytes, most_bytes, same}
+use Rattle.script.specs.Grammar.{hex_digit, byte, prepend, pairs, at_most, bytes, most_bytes, same}
 use Rattle.script.specs.Spelled.{spelled, or_zero}
-use Rattle.script.specs.Promises.{pair_at, counted}
-use Rattle.script.proofs.WordLaws.{step}
+use Rattle.script.specs.Promises.{number_of, pair_at, counted}
+use Rattle.script.proofs.WordLaws.{rest, all_from, same_long}
 use Rattle.script.proofs.NumberLaws.{not_some}
-
--- x within a range, where the test for it holds
-within : (lo hi x : ℕ) → (leb lo x && leb x hi) ≡ true → x ≤ hi
-within lo hi x e = go (leb lo x) e
-  where
-    go : (t : Bool) → (t && leb x hi) ≡ true → x ≤ hi
-    go true d = leb-true x hi d
-    go false d = absurd (false≢true d)
-
-pub hex_low : (x n : ℕ) → hex_digit x ≡ some n → n < 16
-hex_low x n e = go (is_digit x) refl (leb (code "a") x && leb x (code "f")) refl e
-  where
-    go : (t : Bool) → is_digit x ≡ t → (u : Bool) → (leb (code "a") x && leb x (code "f")) ≡ u
-        → (if t then some (x - code "0") else if u then some (x - code "a" + 10) else none) ≡ some n → n < 16
-    go true d u f e' = let same : x - code "0" ≡ n = cc in omega (arith, within (code "0") (code "9") x d)
-    go false d true f e' = let same : x - code "a" + 10 ≡ n = cc in omega (arith, within (code "a") (code "f") x f)
-    go false d false f e' = absurd (not_some e')
-
-byte_low : (x y n : ℕ) → byte (hex_digit x) (hex_digit y) ≡ some n → n < 256
-byte_low x y n e = go (hex_digit x) refl (hex_digit y) refl e
-  where
-    go : (p : Option ℕ) → hex_digit x ≡ p → (q : Option ℕ) → hex_digit y ≡ q → byte p q ≡ some n → n < 256
-    go none d q f e' = absurd (not_some e')
-    go (some h) d none f e' = absurd (not_some e')
-    go (some h) d (some l) f e' = let same : h * 16 + l ≡ n = cc in omega (arith, hex_low x h d, hex_low y l f)
-
-module _ (w : List ℕ) (i : ℕ) where
-  pub pair_last : i + 1 ≡ length w → pair_at (drop i w) ≡ none
-  pair_last e = rw (step w i (omega arith), drop_of_length-le w {i = i + 1} (omega arith))
-
-  pub pair_here : i + 1 < length w → pair_at (drop i w) ≡ byte (hex_digit (get_or w i 0)) (hex_digit (get_or w (i + 1) 0))
-  pair_here h = rw (step w i (omega arith), step w (i + 1) h)
-
-pub pair_low : (l : List ℕ) (n : ℕ) → pair_at l ≡ some n → n < 256
-pair_low [] n e = absurd (not_some e)
-pair_low (x ∷ []) n e = absurd (not_some e)
-pair_low (x ∷ y ∷ l) n e = byte_low x y n e
 
 pair_two : (l : List ℕ) (n : ℕ) → pair_at l ≡ some n → 2 ≤ length l
 pair_two [] n e = absurd (not_some e)
 pair_two (x ∷ []) n e = absurd (not_some e)
 pair_two (x ∷ y ∷ l) n e = omega arith
 
-pairs_next : (l : List ℕ) → 0 < length l → pairs l ≡ prepend (pair_at l) (pairs (drop 2 l))
-pairs_next [] h = absurd (omega arith)
-pairs_next (x ∷ []) h = refl
-pairs_next (x ∷ y ∷ l) h = refl
+-- the first two digits, or the last one alone, before the rest
+pairs_next : (digits rest : List ℕ) → length digits ≡ min 2 (length (digits ++ rest)) → 0 < length (digits ++ rest) → pairs (digits ++ rest) ≡ prepend (pair_at digits) (pairs rest)
+pairs_next [] rest e h = absurd (omega arith)
+pairs_next (x ∷ []) [] e h = refl
+pairs_next (x ∷ []) (y ∷ rest) e h = absurd (omega arith)
+pairs_next (x ∷ y ∷ []) rest e h = refl
+pairs_next (x ∷ y ∷ z ∷ l) rest e h = absurd (omega arith)
 
--- ---- the loop that counts pairs: the first `at` digits spell bytes
+-- ---- the loop that counts pairs
 
-abbrev after : ℕ → Option ℕ → Option ℕ
-after k none = none
-after k (some n) = some (k + n)
+abbrev after : ℕ → Code.Option ℕ → Code.Option ℕ
+after n o = option_map (λ m. n + m) o
 
-pub record Counted (w : List ℕ) (at : ℕ) : Type 0 where
-  pub rest : counted (pairs w) ≡ after (at / 2) (counted (pairs (drop at w)))
-  pub even : at % 2 ≡ 0
-  pub inside : at ≤ length w
+-- n pairs spell bytes, and the rest of the word stands behind them
+pub record Counted (w : List ℕ) (n : ℕ) (rest : List ℕ) : Type 0 where
+  pub whole : length w ≡ n * 2 + length rest
+  pub bytes : counted (pairs w) ≡ after n (counted (pairs rest))
 
-pub counted_none : (w : List ℕ) → Counted w 0
-counted_none w = record { rest = whole (counted (pairs w)); even = refl; inside = omega arith }
+pub counted_none : (w : List ℕ) → Counted w 0 w
+counted_none w = record { whole = omega arith; bytes = same (counted (pairs w)) }
   where
-    whole : (o : Option ℕ) → o ≡ after 0 o
-    whole none = refl
-    whole (some n) = ap some (omega arith)
+    same : (o : Code.Option ℕ) → o ≡ after 0 o
+    same None = refl
+    same (Some n) = ap Some (omega arith)
 
-module _ (w : List ℕ) (at : ℕ) (f : Counted w at) where
-  pub counted-bad : at < length w → pair_at (drop at w) ≡ none → counted (pairs w) ≡ none
-  counted-bad h e = f.rest ∙ rw (pairs_next (drop at w) (simp length-drop (omega arith)), e)
+-- A turn of the loop that counts pairs: the next digits stand before what is left of the word after it.
+module _ (w : List ℕ) (n : ℕ) (left digits rest : List ℕ) (f : Counted w n left) (parts : left ≡ digits ++ rest) (size : length digits ≡ min 2 (length left)) (more : 0 < length left) where
+  next : pairs left ≡ prepend (pair_at digits) (pairs rest)
+  next = rw parts (pairs_next digits rest (rw (← parts) size) (rw (← parts) more))
 
-  pub counted-more : (x : ℕ) → pair_at (drop at w) ≡ some x → Counted w (at + 2)
+  pub counted-bad : pair_at digits ≡ none → counted (pairs w) ≡ None
+  counted-bad e = f.bytes ∙ rw (next, e)
+
+  pub counted-more : (x : ℕ) → pair_at digits ≡ some x → Counted w (n + 1) rest
   counted-more x e =
-      let two : 2 ≤ length (drop at w) = pair_two (drop at w) x e in
-      let next : (at + 2) / 2 ≡ suc (at / 2) = omega arith in
-      record {
-        rest = f.rest ∙ rw (pairs_next (drop at w) (omega arith), e, drop-drop 2 at w, next) (one_more (pairs (drop (at + 2) w)));
-        even = omega (arith, f.even);
-        inside = omega (arith, length-drop at w);
-      }
+      let two : 2 ≤ length digits = pair_two digits x e in
+      let long : length left ≡ length digits + length rest = ap length parts ∙ length-append digits rest in
+      record { whole = omega (arith, f.whole, size); bytes = f.bytes ∙ rw (next, e) (one_more (pairs rest)) }
     where
-      one_more : (o : Option (List ℕ)) → after (at / 2) (counted (prepend (some x) o)) ≡ after (suc (at / 2)) (counted o)
+      one_more : (o : Option (List ℕ)) → after n (counted (prepend (some x) o)) ≡ after (n + 1) (counted o)
       one_more none = refl
-      one_more (some b) = ap some (omega arith)
+      one_more (some b) = ap Some (omega arith)
 
-  pub counted-all : length w ≤ at → counted (pairs w) ≡ some (length w / 2)
-  counted-all h =
-      let same : at ≡ length w = omega (arith, f.inside) in
-      f.rest ∙ rw (drop_of_length-le w h, same) (ap some (omega arith))
+pub counted-all : (w : List ℕ) (n : ℕ) (rest : List ℕ) → Counted w n rest → length rest ≡ 0 → counted (pairs w) ≡ Some (length w / 2)
+counted-all w n [] f e = f.bytes ∙ ap Some (omega (arith, f.whole))
+counted-all w n (x ∷ rest) f e = absurd (omega arith)
 
 -- ---- the bytes that pairs spell
 
@@ -121,6 +83,16 @@ spelled_at (x ∷ y ∷ l) zero h = refl
 spelled_at (x ∷ y ∷ l) (suc i) h =
     let two : suc i + suc i ≡ suc (suc (i + i)) = omega arith in
     rw two (spelled_at l i (omega arith))
+
+-- the two digits of byte i, as the code reads them
+pub spelled_byte : (w : List ℕ) (i : ℕ) {o : Code.Option ℕ} → i < length w / 2 → o ≡ number_of (pair_at (rest w (2 * i))) → unwrap_or o 0 ≡ get_or (spelled w) i 0
+spelled_byte w i h e =
+    let two : 2 * i ≡ i + i = omega arith in
+    rw (e, all_from, two, spelled_at w i h) (read (pair_at (drop (i + i) w)))
+  where
+    read : (o : Option ℕ) → unwrap_or (number_of o) 0 ≡ or_zero o
+    read none = refl
+    read (some n) = refl
 
 pub spelled-pairs : (l b : List ℕ) → pairs l ≡ some b → spelled l ≡ b
 spelled-pairs [] b e = cc
@@ -159,18 +131,11 @@ at_most_many l h = go (pairs l) refl
     go none e = refl
     go (some b) e = rw (lt-leb (length b) most_bytes (omega (arith, pairs-length l b e)))
 
-pub bytes_dash : (w : List ℕ) → same w (ascii "-") ≡ true → bytes w ≡ some []
-bytes_dash [] e = absurd (false≢true e)
-bytes_dash (x ∷ l) e = rw e
+pub bytes_long : (w : List ℕ) → most_bytes + most_bytes < length w → bytes w ≡ none
+bytes_long [] h = absurd (omega arith)
+bytes_long (x ∷ []) h = absurd (omega arith)
+bytes_long (x ∷ y ∷ l) h = rw (same_long (x ∷ y ∷ l) (ascii "-") (omega arith), at_most_many (x ∷ y ∷ l) h)
 
-pub bytes_empty : (w : List ℕ) → length w ≡ 0 → bytes w ≡ none
-bytes_empty [] h = refl
-bytes_empty (x ∷ l) h = absurd (omega arith)
-
-pub bytes_few : (w : List ℕ) → same w (ascii "-") ≡ false → 0 < length w → length w ≤ most_bytes + most_bytes → bytes w ≡ pairs w
-bytes_few [] e h k = absurd (omega arith)
-bytes_few (x ∷ l) e h k = rw e (at_most_few (x ∷ l) k)
-
-pub bytes_many : (w : List ℕ) → same w (ascii "-") ≡ false → most_bytes + most_bytes < length w → bytes w ≡ none
-bytes_many [] e h = absurd (omega arith)
-bytes_many (x ∷ l) e h = rw e (at_most_many (x ∷ l) h)
+pub bytes_pairs : (w : List ℕ) → same w (ascii "-") ≡ false → 0 < length w → length w ≤ most_bytes + most_bytes → bytes w ≡ pairs w
+bytes_pairs [] e h k = absurd (omega arith)
+bytes_pairs (x ∷ l) e h k = rw e (at_most_few (x ∷ l) k)

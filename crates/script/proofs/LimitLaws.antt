@@ -12,7 +12,8 @@ use lib.Seq.{drop-append_seam, drop-length}
 use lib.Dec.{leb, ltb}
 use borrow.Author.Rules.{rules}
 use borrow.Author.Tests.{leb-true}
-use Rattle.std.specs.Prelude.{if◌then◌else◌}
+use Rattle.std.specs.Prelude as Code
+use Rattle.std.specs.Prelude.{if◌then◌else◌, Some, None}
 use Rattle.plain.specs.Calls.{send, read}
 use Rattle.answers.specs.Ascii.{ascii}
 use Rattle.script.specs.Grammar.{Order, does, longest_line, largest_room, most_bytes, words, same, number, pairs, at_most, bytes, beside, alone, reading, numbered, followed, thrice, given, sentence, order}
@@ -20,18 +21,19 @@ use Rattle.script.specs.Spelled.{spelled, lastly}
 use Rattle.script.specs.Promises.{sending}
 use Rattle.script.specs.Request.{meaning, word_of}
 use Rattle.script.specs.declared.calls.Word.{Word}
+use Rattle.script.specs.declared.calls.Word.TheVariants.{Call, Send, Read, Why, Slice}
 use Rattle.script.proofs.NumberLaws.{not_some}
 use Rattle.script.proofs.HexLaws.{pairs-length, spelled-pairs}
 use Rattle.script.proofs.WordLaws.{Ends, ends}
 
 -- the message of a word is not too long and spelled in the line, and its room is no larger than the largest
-abbrev pub Fits : List ℕ → Word → Type 0
-Fits line Word.Bad = Unit {0}
-Fits line (Word.Call q) = Unit {0}
-Fits line (Word.Send m n) = (n ≤ most_bytes) × (n + n ≤ length line)
-Fits line (Word.Read n) = n ≤ largest_room
-Fits line (Word.Why n) = Unit {0}
-Fits line (Word.Slice n) = Unit {0}
+abbrev pub Fits : List ℕ → Code.Option Word → Type 0
+Fits line None = Unit {0}
+Fits line (Some (Call q)) = Unit {0}
+Fits line (Some (Send m n)) = (n ≤ most_bytes) × (n + n ≤ length line)
+Fits line (Some (Read n)) = n ≤ largest_room
+Fits line (Some (Why n)) = Unit {0}
+Fits line (Some (Slice n)) = Unit {0}
 
 -- the word of an order means it in the line
 pub record Limited (line : List ℕ) (c : Option Order) : Type 0 where

@@ -1,71 +1,93 @@
 -- Laws of words: where a line is cut, and when two words are the same.
 -- Assumes nothing.
 use Prim.Native.Nat.{ℕ, suc, ◌+◌, ◌-◌, ◌≤◌, ◌<◌}
-use mathlib.Core.Path.{◌≡◌, refl, sym, ap}
-use mathlib.Core.Bool.{Bool, true, false, and-false}
+use mathlib.Core.Path.{◌≡◌, refl, sym, ap, subst, ◌∙◌}
+use mathlib.Core.Bool.{Bool, true, false, ◌&&◌}
 use mathlib.Core.List.{List, [], ◌∷◌, ◌++◌}
 use mathlib.Core.Logic.{◌≢◌}
 use native.Mathlib.Omega.{arith}
 use native.Mathlib.Numerals.{add-one}
-use lib.ListN.{length, get_or, take, drop, length-drop, drop_of_length-le}
+use lib.ListN.{length, get_or, take, drop, length-drop}
 use lib.Seq.{drop-cons, take_all}
-use lib.Dec.{eqb}
-use borrow.Author.Tests.{eq-eqb, ne_eqb}
-use Rattle.std.specs.Prelude.{if◌then◌else◌}
+use lib.Dec.{eqb, ltb}
+use borrow.Author.Tests.{eq-eqb, eqb-true, ltb-true, ltb-false}
+use Rattle.std.proofs.Common.{◌⊎◌, inl, inr}
+use Rattle.std.proofs.lemmas.Slice.Eq.{HasBytesAt, text_from_reads}
+use Rattle.std.specs.Prelude.{if◌then◌else◌, cond, not, Some, None, position}
+use Rattle.std.specs.List.{position_or_len}
 use Rattle.answers.specs.Ascii.{space}
 use Rattle.script.specs.Grammar.{begin, words, same}
-use Rattle.script.specs.Promises.{first_space}
 
 module _ (l : List ℕ) (i : ℕ) (h : i < length l) where
   -- one element, then the rest, as the code counts
   pub step : drop i l ≡ get_or l i 0 ∷ drop (i + 1) l
   step = rw (add-one, drop-cons l i 0)
 
-  pub space_here : get_or l i 0 ≡ space → first_space (drop i l) ≡ 0
-  space_here e = rw (step, eq-eqb (get_or l i 0) space e)
+-- ---- a word and a fixed one
 
-  pub space-later : get_or l i 0 ≢ space → first_space (drop i l) ≡ suc (first_space (drop (i + 1) l))
-  space-later n = rw (step, ne_eqb (get_or l i 0) space n)
+same_self : (p : List ℕ) → same p p ≡ true
+same_self [] = refl
+same_self (c ∷ p) = rw (eq-eqb c c refl, same_self p)
 
-pub space_none : (l : List ℕ) (i : ℕ) → length l ≤ i → first_space (drop i l) ≡ 0
-space_none l i h = ap first_space (drop_of_length-le l h)
+same_whole : (w p : List ℕ) → same w p ≡ true → w ≡ p
+same_whole [] [] e = refl
+same_whole [] (c ∷ p) e = absurd cc
+same_whole (x ∷ w) [] e = absurd cc
+same_whole (x ∷ w) (c ∷ p) e = go (eqb x c) refl e (λ d. same_whole w p d)
+  where
+    go : (t : Bool) → eqb x c ≡ t → (t && same w p) ≡ true → (same w p ≡ true → w ≡ p) → x ∷ w ≡ c ∷ p
+    go true h d ih = let head : x ≡ c = eqb-true x c h in let tail : w ≡ p = ih d in cc
+    go false h d ih = absurd cc
 
--- ---- two words, compared element by element
+own_bytes : (p q : List ℕ) (i : ℕ) → q ≡ drop i p → HasBytesAt p i q
+own_bytes p [] i e = tt
+own_bytes p (c ∷ q) i e =
+    let inside : i < length p = omega (arith, ap length e, length-drop i p) in
+    let parts : c ∷ q ≡ get_or p i 0 ∷ drop (suc i) p = e ∙ rw (drop-cons p i 0) in
+    (cc, own_bytes p q (suc i) cc)
 
-module _ (a b : List ℕ) (i : ℕ) (h : i < length a) (k : i < length b) where
-  pub same-later : get_or a i 0 ≡ get_or b i 0 → same (drop i a) (drop i b) ≡ same (drop (i + 1) a) (drop (i + 1) b)
-  same-later e = rw (step a i h, step b i k, eq-eqb (get_or a i 0) (get_or b i 0) e)
+pub same_cases : (w p : List ℕ) → ((same w p ≡ true) × (length w ≡ length p) × HasBytesAt w 0 p) ⊎ (same w p ≡ false)
+same_cases w p = go (same w p) refl
+  where
+    go : (t : Bool) → same w p ≡ t → ((t ≡ true) × (length w ≡ length p) × HasBytesAt w 0 p) ⊎ (t ≡ false)
+    go true e =
+        let whole : w ≡ p = same_whole w p e in
+        inl (refl, ap length whole, subst (λ (x : List ℕ). HasBytesAt x 0 p) (sym whole) (own_bytes p p 0 refl))
+    go false e = inr refl
 
-  pub same_not : get_or a i 0 ≢ get_or b i 0 → same (drop i a) (drop i b) ≡ false
-  same_not n = rw (step a i h, step b i k, ne_eqb (get_or a i 0) (get_or b i 0) n)
+pub same_read : (w p : List ℕ) → length w ≡ length p → HasBytesAt w 0 p → same w p ≡ true
+same_read w p e h = rw (text_from_reads w p e h, same_self p)
 
-pub same_end : (a b : List ℕ) (i : ℕ) → length a ≤ i → length b ≤ i → same (drop i a) (drop i b) ≡ true
-same_end a b i h k = rw (drop_of_length-le a h, drop_of_length-le b k)
+-- for a `match` on fixed words
+pub ruleset fixed_words = (same_cases, same_read)
 
-pub same_long : (a b : List ℕ) → length a ≢ length b → same a b ≡ false
-same_long [] [] n = absurd (n refl)
-same_long [] (y ∷ b) n = refl
-same_long (x ∷ a) [] n = refl
-same_long (x ∷ a) (y ∷ b) n = rw (same_long a b (λ e. n (ap suc e))) (and-false (eqb x y))
+pub same_long : (w p : List ℕ) → length w ≢ length p → same w p ≡ false
+same_long w p n = elim (same_cases w p) [
+  | inl found ↦ absurd (n found.1)
+  | inr other ↦ other
+]
 
 -- ---- where a line is cut
 
-pub words-one : (l : List ℕ) → first_space l ≡ length l → words l ≡ l ∷ []
-words-one [] e = refl
-words-one (x ∷ l) e = go (eqb x space) e (λ d. words-one l d)
+abbrev end_of : List ℕ → ℕ
+end_of l = position_or_len (λ x. eqb x space) l
+
+whole : (l : List ℕ) → length l ≤ end_of l → words l ≡ l ∷ []
+whole [] h = refl
+whole (x ∷ l) h = go (eqb x space) h (λ d. whole l d)
   where
-    go : (t : Bool) → (if t then 0 else suc (first_space l)) ≡ suc (length l) → (first_space l ≡ length l → words l ≡ l ∷ []) → (if t then [] ∷ words l else begin x (words l)) ≡ (x ∷ l) ∷ []
+    go : (t : Bool) → suc (length l) ≤ cond (not t) (1 + end_of l) 0 → (length l ≤ end_of l → words l ≡ l ∷ []) → (if t then [] ∷ words l else begin x (words l)) ≡ (x ∷ l) ∷ []
     go true d ih = absurd (omega arith)
     go false d ih = rw (ih (omega arith))
 
-cut : (l : List ℕ) → first_space l < length l → words l ≡ take (first_space l) l ∷ words (drop (suc (first_space l)) l)
+cut : (l : List ℕ) → end_of l < length l → words l ≡ take (end_of l) l ∷ words (drop (suc (end_of l)) l)
 cut [] h = absurd (omega arith)
 cut (x ∷ l) h = go (eqb x space) h (λ d. cut l d)
   where
-    go : (t : Bool) → (if t then 0 else suc (first_space l)) < suc (length l) → (first_space l < length l → words l ≡ take (first_space l) l ∷ words (drop (suc (first_space l)) l))
-        → (if t then [] ∷ words l else begin x (words l)) ≡ take (if t then 0 else suc (first_space l)) (x ∷ l) ∷ words (drop (suc (if t then 0 else suc (first_space l))) (x ∷ l))
+    go : (t : Bool) → cond (not t) (1 + end_of l) 0 < suc (length l) → (end_of l < length l → words l ≡ take (end_of l) l ∷ words (drop (suc (end_of l)) l))
+        → (if t then [] ∷ words l else begin x (words l)) ≡ take (cond (not t) (1 + end_of l) 0) (x ∷ l) ∷ words (drop (suc (cond (not t) (1 + end_of l) 0)) (x ∷ l))
     go true d ih = refl
-    go false d ih = rw (ih (omega arith))
+    go false d ih = let next : 1 + end_of l ≡ suc (end_of l) = omega arith in rw (next, ih (omega arith))
 
 -- all from n on, as the code takes it
 abbrev pub rest : List ℕ → ℕ → List ℕ
@@ -74,9 +96,20 @@ rest l n = take (length l - n) (drop n l)
 pub all_from : (l : List ℕ) (n : ℕ) → rest l n ≡ drop n l
 all_from l n = take_all (length l - n) (drop n l) (simp length-drop (omega arith))
 
+pub words_one : (l : List ℕ) → position (λ x. eqb x space) l ≡ None → words l ≡ l ∷ []
+words_one l e = go (ltb (end_of l) (length l)) refl e
+  where
+    go : (t : Bool) → ltb (end_of l) (length l) ≡ t → cond t (Some (end_of l)) None ≡ None → words l ≡ l ∷ []
+    go true h d = absurd cc
+    go false h d = whole l (ltb-false (end_of l) (length l) h)
+
 -- the word before the first space, and the words behind it
-pub words_cut : (l : List ℕ) (n : ℕ) → n ≡ first_space l → n < length l → words l ≡ take n l ∷ words (rest l (n + 1))
-words_cut l n e h = rw (all_from, add-one, e) (cut l (omega arith))
+pub words_cut : (l : List ℕ) (n : ℕ) → position (λ x. eqb x space) l ≡ Some n → words l ≡ take n l ∷ words (rest l (n + 1))
+words_cut l n e = go (ltb (end_of l) (length l)) refl e
+  where
+    go : (t : Bool) → ltb (end_of l) (length l) ≡ t → cond t (Some (end_of l)) None ≡ Some n → words l ≡ take n l ∷ words (rest l (n + 1))
+    go true h d = let same : end_of l ≡ n = cc in rw (all_from, add-one, ← same) (cut l (ltb-true (end_of l) (length l) h))
+    go false h d = absurd cc
 
 -- a line has a word, if an empty one
 pub record Begins (ws : List (List ℕ)) : Type 0 where

@@ -1,95 +1,59 @@
 // Bytes in lowercase hex pairs: how many a word spells, and which. Assumes nothing but what a `requires` says.
-ghost use Rattle.std.specs.Prelude.{◌≡◌, ◌≤◌, ◌<◌, ◌+◌, length, drop};
+ghost use Rattle.std.specs.Prelude.{◌≡◌, ◌≤◌, ◌+◌, length};
 ghost use Rattle.answers.specs.Written.{Written};
-ghost use Rattle.script.specs.Grammar.{hex_digit, byte, bytes, pairs, most_bytes};
-ghost use Rattle.script.specs.Spelled.{spelled, or_zero};
+ghost use Rattle.script.specs.Grammar.{hex_digit, bytes, pairs, most_bytes};
+ghost use Rattle.script.specs.Spelled.{spelled};
 ghost use Rattle.script.specs.Promises.{number_of, pair_at, counted};
-
-use crate::numbers::Number;
-use crate::words::is_word;
 
 pub const MOST_BYTES: usize = 4200;
 
-fn hex_digit(x: u8) -> Number
+// `to_digit` of the library takes capitals too.
+fn hex_digit(x: u8) -> Option<u8>
     ensures { result ≡ number_of (hex_digit x) }
 {
     match x {
-        b'0'..=b'9' => {
-            let d = (x - b'0') as u32;
-            Number::Is(d)
-        }
-        b'a'..=b'f' => {
-            let d = (x - b'a') as u32 + 10;
-            Number::Is(d)
-        }
-        _ => Number::Bad,
+        b'0'..=b'9' => Some(x - b'0'),
+        b'a'..=b'f' => Some(x - b'a' + 10),
+        _ => None,
     }
 }
 
-fn pair(x: u8, y: u8) -> Number
-    ensures { result ≡ number_of (byte (hex_digit x) (hex_digit y)) }
+// The byte that the first two digits spell.
+fn pair(digits: &[u8]) -> Option<u8>
+    ensures { result ≡ number_of (pair_at digits.now) }
 {
-    let Number::Is(h) = hex_digit(x) else {
-        return Number::Bad;
+    let [h, l, ..] = digits else {
+        return None;
     };
-    let Number::Is(l) = hex_digit(y) else {
-        return Number::Bad;
-    };
-    let b = h * 16 + l;
-    Number::Is(b)
-}
-
-// The byte that the two digits at `at` spell.
-fn pair_at(w: &[u8], at: usize) -> Number
-    requires { at < length w.now }
-    ensures { result ≡ number_of (pair_at (drop at w.now)) }
-{
-    if at + 1 == w.len() {
-        return Number::Bad;
-    }
-    pair(w[at], w[at + 1])
+    let h = hex_digit(*h)?;
+    let l = hex_digit(*l)?;
+    Some(h * 16 + l)
 }
 
 // How many bytes pairs spell.
-fn count_pairs(w: &[u8]) -> Number
+fn count_pairs(w: &[u8]) -> Option<u32>
     requires { length w.now ≤ most_bytes + most_bytes }
-    ensures { result ≡ number_of (counted (pairs w.now)) }
+    ensures { result ≡ counted (pairs w.now) }
 {
-    let mut at = 0;
-    while at < w.len() {
-        let Number::Is(_) = pair_at(w, at) else {
-            return Number::Bad;
-        };
-        at += 2;
+    for digits in w.chunks(2) {
+        pair(digits)?;
     }
-    let n = (w.len() / 2) as u32;
-    Number::Is(n)
+    Some((w.len() / 2) as u32)
 }
 
 // How many bytes a word spells: a `-` none, and any other word as many as its pairs.
-pub(crate) fn count_bytes(w: &[u8]) -> Number
-    ensures { result ≡ number_of (counted (bytes w.now)) }
+#[tactic(auto, using(crate::proofs::WordLaws::same_cases, crate::proofs::HexLaws::bytes_long, crate::proofs::HexLaws::bytes_pairs))]
+pub(crate) fn count_bytes(w: &[u8]) -> Option<u32>
+    ensures { result ≡ counted (bytes w.now) }
 {
-    if is_word(w, b"-") {
-        return Number::Is(0);
-    }
-    if w.len() == 0 {
-        return Number::Bad;
-    }
     if MOST_BYTES + MOST_BYTES < w.len() {
-        return Number::Bad;
+        return None;
     }
-    count_pairs(w)
-}
-
-fn byte_at(w: &[u8], at: usize) -> u8
-    requires { at < length w.now }
-    ensures { result ≡ or_zero (pair_at (drop at w.now)) }
-{
-    let Number::Is(b) = pair_at(w, at) else {
-        return 0;
-    };
-    b as u8
+    match w {
+        b"-" => Some(0),
+        [] => None,
+        _ => count_pairs(w),
+    }
 }
 
 // Writes the bytes that pairs spell at the start of out and gives how many there are. Where out is too short it writes nothing and gives 0.
@@ -100,12 +64,8 @@ pub fn put_bytes(out: &mut [u8], w: &[u8]) -> usize
     if out.len() < n {
         return 0;
     }
-    let mut i = 0;
-    let mut at = 0;
-    while i < n {
-        out[i] = byte_at(w, at);
-        i += 1;
-        at += 2;
+    for i in 0..n {
+        out[i] = pair(&w[2 * i..]).unwrap_or(0);
     }
     n
 }

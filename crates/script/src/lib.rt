@@ -12,11 +12,11 @@ use crate::calls::Word;
 
 pub const LONGEST_LINE: usize = 8600;
 
-pub fn request(line: &[u8]) -> Word
+pub fn request(line: &[u8]) -> Option<Word>
     ensures { Tells line.now result }
 {
     if LONGEST_LINE < line.len() {
-        return Word::Bad;
+        return None;
     }
     calls::sentence(line)
 }

@@ -5,57 +5,33 @@ ghost use Rattle.script.specs.Promises.{number_of, next_digit};
 
 const HIGHEST_NUMBER: u32 = 65535;
 
-#[derive(Clone, Copy)]
-pub enum Number {
-    Is(u32),
-    Bad,
-}
-
 // The number v with one more digit behind it.
-fn next_digit(v: u32, x: u8) -> Number
+fn next_digit(v: u32, x: u8) -> Option<u32>
     requires { v ≤ highest_number }
     ensures { result ≡ number_of (next_digit v x) }
 {
-    if x < b'0' {
-        return Number::Bad;
+    if !x.is_ascii_digit() {
+        return None;
     }
-    if b'9' < x {
-        return Number::Bad;
-    }
-    let d = x - b'0';
-    let n = v * 10 + d as u32;
-    if HIGHEST_NUMBER < n {
-        return Number::Bad;
-    }
-    Number::Is(n)
+    let n = v * 10 + u32::from(x - b'0');
+    (n <= HIGHEST_NUMBER).then_some(n)
 }
 
 fn leading_zero(w: &[u8]) -> bool
     ensures { result ≡ leading_zero w.now }
 {
-    if w.len() < 2 {
-        return false;
-    }
-    w[0] == b'0'
+    matches!(w, [b'0', _, ..])
 }
 
-pub fn read_number(w: &[u8]) -> Number
+pub fn read_number(w: &[u8]) -> Option<u32>
     ensures { result ≡ number_of (number w.now) }
 {
-    if w.len() == 0 {
-        return Number::Bad;
-    }
-    if leading_zero(w) {
-        return Number::Bad;
+    if w.is_empty() || leading_zero(w) {
+        return None;
     }
     let mut v = 0;
-    let mut i = 0;
-    while i < w.len() {
-        let Number::Is(n) = next_digit(v, w[i]) else {
-            return Number::Bad;
-        };
-        v = n;
-        i += 1;
+    for x in w {
+        v = next_digit(v, *x)?;
     }
-    Number::Is(v)
+    Some(v)
 }

@@ -1,34 +1,19 @@
-// Where a word ends, and whether it is a fixed one. Assumes nothing.
-ghost use Rattle.std.specs.Prelude.{◌≡◌, ◌≤◌, length};
-ghost use Rattle.script.specs.Grammar.{same};
-ghost use Rattle.script.specs.Promises.{first_space};
+// Where a line is cut into words. Assumes nothing.
+ghost use Rattle.std.specs.Prelude.{◌≡◌, ◌==◌, ◌∷◌, [], position, MatchOption};
+ghost use Rattle.answers.specs.Ascii.{space};
+ghost use Rattle.script.specs.Grammar.{words};
 
-// The place of the first space, or the length where there is none.
-pub(crate) fn first_space(s: &[u8]) -> usize
-    ensures { (result ≡ first_space s.now) × (result ≤ length s.now) }
+// The place of the first space.
+fn first_space(s: &[u8]) -> Option<usize>
+    ensures { result ≡ position (λ x. x == space) s.now }
 {
-    let mut i = 0;
-    while i < s.len() {
-        if s[i] == b' ' {
-            return i;
-        }
-        i += 1;
-    }
-    i
+    s.iter().position(|x| *x == b' ')
 }
 
-pub(crate) fn is_word(w: &[u8], fixed: &[u8]) -> bool
-    ensures { result ≡ same w.now fixed.now }
+// The word before the first space, and what follows the space; none where the whole is one word.
+pub(crate) fn cut(s: &[u8]) -> Option<(&[u8], &[u8])>
+    ensures { MatchOption result (words s.now ≡ s.now ∷ []) (λ c. words s.now ≡ c.0.now ∷ words c.1.now) }
 {
-    if w.len() != fixed.len() {
-        return false;
-    }
-    let mut i = 0;
-    while i < w.len() {
-        if w[i] != fixed[i] {
-            return false;
-        }
-        i += 1;
-    }
-    true
+    let end = first_space(s)?;
+    Some((&s[..end], &s[end + 1..]))
 }

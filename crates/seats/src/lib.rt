@@ -15,35 +15,24 @@ ghost use Rattle.seats.specs.Fits.{Found, Block, Bare, Asked, AllSeats, ready_in
 
 use procs::Procs;
 use queues::{Queues, bytes_of};
-use rings::Places;
 use sizes::{PROCESSES, Pid, Pids};
 
 const CLASSES: u8 = sizes::CLASSES as u8;
 
 const NODES: usize = sizes::PROCESSES + sizes::QUEUES;
 
-// Whether the links are rings, and in which queue each process then stands.
-fn places_of(queues: Queues) -> Places
-    ensures { Found (tables_of queues) result.ok result.at }
+// In which queue each process stands, where the links are rings.
+fn places_of(queues: Queues) -> Option<[u8; PROCESSES]>
+    ensures { Found (tables_of queues) result }
 {
-    let next = queues.next;
-    let prev = queues.prev;
-    let on = bytes_of(next);
-    let back = bytes_of(prev);
-    rings::standing(&on, &back, PROCESSES)
+    rings::standing(&bytes_of(queues.next), &bytes_of(queues.prev), PROCESSES)
 }
 
 // Whether a used process, which runs or stands in a queue, may have this class and these ticks.
 fn block_fits(at: u8, class: u8, ticks: u8, slice: u8) -> bool
     ensures { Decides result (Block slice at class ticks) }
 {
-    if CLASSES <= class {
-        return false;
-    }
-    if ticks < 1 {
-        return false;
-    }
-    if slice < ticks {
+    if CLASSES <= class || ticks < 1 || slice < ticks {
         return false;
     }
     if at == 0 {
@@ -59,13 +48,7 @@ fn block_fits(at: u8, class: u8, ticks: u8, slice: u8) -> bool
 fn is_vacant(at: u8, class: u8, ticks: u8) -> bool
     ensures { Decides result (Bare at class ticks) }
 {
-    if at != 0 {
-        return false;
-    }
-    if class != 0 {
-        return false;
-    }
-    ticks == 0
+    at == 0 && class == 0 && ticks == 0
 }
 
 // Whether a process is in exactly one place, and its block is as that place asks. Of one that is unused it is not asked here whether it runs.
@@ -75,10 +58,7 @@ fn seat_fits(at: u8, runs: bool, class: u8, ticks: u8, unused: bool, slice: u8) 
     if unused {
         return is_vacant(at, class, ticks);
     }
-    if runs != (at == 0) {
-        return false;
-    }
-    block_fits(at, class, ticks, slice)
+    runs == (at == 0) && block_fits(at, class, ticks, slice)
 }
 
 // Whether every process has its seat; 0 has that of an unused one. All are asked, with no early exit: so compiled, several at once.
@@ -92,19 +72,14 @@ fn seats_fit(
 ) -> bool
     ensures { Decides result (AllSeats slice running at class ticks unused.0) }
 {
-    if bits::has_bit(unused.0, 0) {
-        return false;
-    }
-    if bits::has_bit(unused.0, running as u32) {
+    if bits::has_bit(unused.0, 0) || bits::has_bit(unused.0, running as u32) {
         return false;
     }
     let vacant = bits::with_bit(unused.0, 0);
     let mut all = true;
-    let mut p = 0;
-    while p < PROCESSES {
+    for p in 0..PROCESSES {
         let bit = bits::has_bit(vacant, p as u32);
-        all = all & seat_fits(at[p], running == p as u8, class[p], ticks[p], bit, slice);
-        p += 1;
+        all &= seat_fits(at[p], running == p as u8, class[p], ticks[p], bit, slice);
     }
     all
 }
@@ -125,12 +100,9 @@ fn ready_word(next: [Pid; NODES]) -> u32
     ensures { result ≡ word width (ready_in classes (map num next)) }
 {
     let mut w = 0u32;
-    let mut c = 0u8;
-    while c < CLASSES {
-        let head = PROCESSES + c as usize;
-        let first = next[head];
+    for c in 0..CLASSES {
+        let first = next[PROCESSES + c as usize];
         w = bit_as(w, c as u32, (first.0 as usize) < PROCESSES);
-        c += 1;
     }
     w
 }
@@ -156,37 +128,22 @@ fn procs_fit(k: Procs, at: [u8; PROCESSES], slice: u8) -> bool
     if PROCESSES <= running {
         return false;
     }
-    let class = k.class;
-    let ticks = k.ticks;
-    if !seats_fit(k.running.0, at, class, ticks, k.unused, slice) {
+    if !seats_fit(k.running.0, at, k.class, k.ticks, k.unused, slice) {
         return false;
     }
-    let queues = k.queues;
-    let next = queues.next;
-    let ready = k.ready;
-    if ready != ready_word(next) {
+    if k.ready != ready_word(k.queues.next) {
         return false;
     }
-    is_topmost(running, class[running], ready)
+    is_topmost(running, k.class[running], k.ready)
 }
 
-// Whether k holds the sound process part of a state, and in which queue each process then stands.
-pub fn seated(k: Procs, slice: u8) -> Places
-    ensures { Decision slice (numbers k) result.ok result.at }
+// In which queue each process stands, where k holds the sound process part of a state.
+pub fn seated(k: Procs, slice: u8) -> Option<[u8; PROCESSES]>
+    ensures { Decision slice (numbers k) result }
 {
-    let zeros = [0u8; PROCESSES];
-    let none = Places {
-        ok: false,
-        at: zeros,
-    };
-    let queues = k.queues;
-    let found = places_of(queues);
-    if !found.ok {
-        return none;
-    }
-    let at = found.at;
+    let at = places_of(k.queues)?;
     if !procs_fit(k, at, slice) {
-        return none;
+        return None;
     }
-    Places { ok: true, at }
+    Some(at)
 }

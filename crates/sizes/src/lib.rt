@@ -1,19 +1,70 @@
 // The sizes of document 01 as the code has them, each named once, and process and buffer numbers, and words of bits for them, as separate units. The definitions have their own sizes in crates/plain/specs/Sizes.antt, and the proofs hold the two together. Assumes nothing.
 #![tactic(auto)]
 
+ghost use Rattle.std.specs.Prelude.{◌≡◌, ℕ};
+
+// A kind of things that are known by a number of one byte; such a number is one itself.
+pub trait Unit: Copy {
+    ghost num: { Self → ℕ };
+
+    fn number(self) -> u8
+        ensures { result ≡ num self };
+
+    fn of(n: u8) -> Self
+        ensures { num result ≡ n };
+}
+
 // A process and a buffer: "a place for one never takes the other". Either may hold any byte.
-#[derive(Clone, Copy)]
+#[derive(Clone, Copy, PartialEq, Eq)]
 pub struct Pid(pub u8);
 
-#[derive(Clone, Copy)]
+#[derive(Clone, Copy, PartialEq, Eq)]
 pub struct Bid(pub u8);
 
+impl Unit for u8 {
+    ghost num = { λ n. n };
+
+    fn number(self) -> u8 {
+        self
+    }
+
+    fn of(byte: u8) -> u8 {
+        byte
+    }
+}
+
+impl Unit for Pid {
+    ghost num = { λ p. p.0 };
+
+    fn number(self) -> u8 {
+        let Pid(n) = self;
+        n
+    }
+
+    fn of(n: u8) -> Pid {
+        Pid(n)
+    }
+}
+
+impl Unit for Bid {
+    ghost num = { λ b. b.0 };
+
+    fn number(self) -> u8 {
+        let Bid(n) = self;
+        n
+    }
+
+    fn of(n: u8) -> Bid {
+        Bid(n)
+    }
+}
+
 // A word with a bit for each process, bit p for process p.
-#[derive(Clone, Copy)]
+#[derive(Clone, Copy, PartialEq, Eq)]
 pub struct Pids(pub u32);
 
 // A word with a bit for each buffer, bit b for buffer b.
-#[derive(Clone, Copy)]
+#[derive(Clone, Copy, PartialEq, Eq)]
 pub struct Bids(pub u32);
 
 pub const PROCESSES: usize = 32;

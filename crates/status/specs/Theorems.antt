@@ -1,6 +1,7 @@
 -- The theorems about what is told, as statements. Each is proved under its own name in proofs/Theorems.antt.
 -- Assumes nothing.
 use Rattle.std.specs.Prelude.{ℕ, ◌≤◌, List, ◌≡◌, length, take}
+use Rattle.telling.specs.Promise.{long}
 use Rattle.telling.specs.declared.Told.{Told}
 use Rattle.wording.specs.Page.{page_room}
 use Rattle.status.specs.Promise.{Answers}
@@ -11,4 +12,4 @@ OneText = (area old new new' : List ℕ) (r r' : Told) → Answers area old new 
 
 -- 2. An area of so many bytes takes every text.
 abbrev pub EveryTextFits : Type 0
-EveryTextFits = (area old new : List ℕ) (r : Told) (a : Answers area old new r) → page_room ≤ length old → take r.length new ≡ a.text
+EveryTextFits = (area old new : List ℕ) (r : Told) (a : Answers area old new r) → page_room ≤ length old → take (long r) new ≡ a.text

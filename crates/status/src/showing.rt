@@ -9,14 +9,12 @@ fn show(state: &[u8], out: &mut [u8]) -> Told
     ensures { Gives page_room (Shown state.now) out.old out.new result }
 {
     let sheet = listing::sheet_of(state, sizes::PROCESSES);
-    let a = sheet.answer;
-    if a.code != 0 {
+    let Some(rows) = sheet.rows else {
         return telling::not_sound(out);
-    }
-    let rows = sheet.rows;
+    };
     let births = image::read(state).births;
     let length = wording::put_page(out, births, rows);
-    Told { good: true, length }
+    Told::Answer(length)
 }
 
 // Any area. Where the text does not fit into out, nothing is written there and the length is 0.

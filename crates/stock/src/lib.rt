@@ -14,11 +14,10 @@ ghost use Rattle.stock.specs.Stock.{Decision};
 ghost use Rattle.stock.specs.Tests.{AllBuffers, AllEmpty, BufferFits, Few, Grasped, Handed, MessagesFit, Queued};
 
 use bits::{lowest_bit, without_bit};
-use boxes::bytes_of;
+use boxes::{Boxes, bytes_of};
 use chains::{chained, needs};
 use habits::capacity_of;
 use mail::Mail;
-use rings::Places;
 use sizes::{BUFFERS, Bid, Bids, PROCESSES, Pids};
 
 const MAILBOXES: u32 = sizes::MAILBOXES as u32;
@@ -30,9 +29,9 @@ const LONGEST: u16 = sizes::LONGEST as u16;
 // The place of a buffer in which a message in a hand begins. Elsewhere it is m + 1 for one in mailbox m, 0 where none begins.
 const IN_HAND: u8 = sizes::MAILBOXES as u8 + 1;
 
-// Whether the links, as bytes, hold rings, and the place of each buffer that is queued.
-fn queued(next: &[u8; NODES], prev: &[u8; NODES]) -> Places
-    ensures { Queued (tables next.now prev.now) result.ok result.at }
+// The place of each buffer that is queued, where the links, as bytes, hold rings.
+fn queued(next: &[u8; NODES], prev: &[u8; NODES]) -> Option<[u8; BUFFERS]>
+    ensures { Queued (tables next.now prev.now) result }
 {
     rings::standing(next, prev, BUFFERS)
 }
@@ -41,12 +40,10 @@ fn queued(next: &[u8; NODES], prev: &[u8; NODES]) -> Places
 fn few(next: &[u8; NODES], capacity: [u8; sizes::MAILBOXES]) -> bool
     ensures { (prev : List ℕ) → Decides result (Few (tables next.now prev) (capacity_in capacity)) }
 {
-    let mut m = 0;
-    while m < MAILBOXES {
-        if boxes::at_least(next, m, capacity_of(capacity, m) + 1) {
+    for m in 0..MAILBOXES {
+        if Boxes::at_least(next, m, capacity_of(capacity, m) + 1) {
             return false;
         }
-        m += 1;
     }
     true
 }
@@ -57,10 +54,7 @@ fn grasp(at: &mut [u8; BUFFERS], b: Bid) -> bool
     ensures { Grasped at.old b.0 result at.new × (length at.new ≡ buffers) }
 {
     let i = b.0 as usize;
-    if BUFFERS <= i {
-        return false;
-    }
-    if at[i] != 0 {
+    if BUFFERS <= i || at[i] != 0 {
         return false;
     }
     at[i] = IN_HAND;
@@ -68,40 +62,37 @@ fn grasp(at: &mut [u8; BUFFERS], b: Bid) -> bool
 }
 
 // Whether every hand has 0. All are asked, with no early exit: so compiled, several at once.
-fn all_empty(hand: [Bid; PROCESSES]) -> bool
-    ensures { Decides result (AllEmpty (map num hand)) }
+fn all_empty(hand: &[Bid; PROCESSES]) -> bool
+    ensures { Decides result (AllEmpty (map num hand.now)) }
 {
     let mut all = true;
-    let mut p = 0;
-    while p < PROCESSES {
-        let b = hand[p];
-        all = all & (b.0 == 0);
-        p += 1;
+    for b in hand {
+        all &= *b == Bid(0);
     }
     all
 }
 
 // Each full hand in turn, lowest first, gets its buffer; at first only the queued ones have a place. The other hands have 0.
-fn handed(at: [u8; BUFFERS], hand: [Bid; PROCESSES], full: Pids) -> Places
-    ensures { Handed at (map num hand) full.0 result.ok result.at }
+fn handed(at: [u8; BUFFERS], hand: [Bid; PROCESSES], full: Pids) -> Option<[u8; BUFFERS]>
+    ensures { Handed at (map num hand) full.0 result }
 {
     let mut s = at;
     let mut rest = hand;
     let mut todo = full.0;
+    // By the bits that are on, and not hand by hand: most hands are empty.
     while todo != 0 {
         let p = lowest_bit(todo);
         let i = p as usize;
-        let b = rest[i];
-        if !grasp(&mut s, b) {
-            return Places { ok: false, at: s };
+        if !grasp(&mut s, rest[i]) {
+            return None;
         }
         rest[i] = Bid(0);
         todo = without_bit(todo, p);
     }
-    Places {
-        ok: all_empty(rest),
-        at: s,
+    if !all_empty(&rest) {
+        return None;
     }
+    Some(s)
 }
 
 // Whether a buffer at this place has a length that it may have there.
@@ -119,10 +110,8 @@ fn buffers_fit(at: [u8; BUFFERS], length: [u16; BUFFERS]) -> bool
     ensures { Decides result (AllBuffers at length) }
 {
     let mut all = true;
-    let mut b = 0;
-    while b < BUFFERS {
-        all = all & buffer_fits(at[b], length[b]);
-        b += 1;
+    for b in 0..BUFFERS {
+        all &= buffer_fits(at[b], length[b]);
     }
     all
 }
@@ -136,36 +125,23 @@ fn messages_fit(
 ) -> bool
     ensures { Decides result (MessagesFit at length (map num chain) (bits free.0)) }
 {
-    if !buffers_fit(at, length) {
-        return false;
-    }
-    let need = needs(at, length);
-    chained(chain, need, free)
+    buffers_fit(at, length) && chained(&chain, &needs(&at, &length), free)
 }
 
 // Whether k holds sound mail, where each mailbox takes as many messages as `capacity` has for it.
 pub fn stocked(k: Mail, capacity: [u8; sizes::MAILBOXES]) -> bool
     ensures { Decision (numbers k) (capacity_in capacity) result }
 {
-    let on = k.boxes.next;
-    let back = k.boxes.prev;
-    let next = bytes_of(on);
-    let prev = bytes_of(back);
-    let q = queued(&next, &prev);
-    if !q.ok {
+    let next = bytes_of(k.boxes.next);
+    let prev = bytes_of(k.boxes.prev);
+    let Some(in_boxes) = queued(&next, &prev) else {
         return false;
-    }
+    };
     if !few(&next, capacity) {
         return false;
     }
-    let in_boxes = q.at;
-    let hand = k.hand;
-    let h = handed(in_boxes, hand, k.full);
-    if !h.ok {
+    let Some(at) = handed(in_boxes, k.hand, k.full) else {
         return false;
-    }
-    let at = h.at;
-    let length = k.length;
-    let chain = k.chain;
-    messages_fit(at, length, chain, k.free)
+    };
+    messages_fit(at, k.length, k.chain, k.free)
 }

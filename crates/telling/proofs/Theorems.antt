@@ -1,16 +1,18 @@
 -- The theorems: a fault has one text, what is told has no second answer, and there is room for it.
 -- Assumes nothing.
 use Prim.Native.Nat.{ℕ}
-use mathlib.Core.Bool.{Bool, true, false}
+use mathlib.Core.Bool.{Bool, true, false, true≢false, false≢true}
 use mathlib.Core.List.{List}
-use mathlib.Core.Path.{refl}
+use mathlib.Core.Path.{◌≡◌, refl, ap}
 use native.Mathlib.Omega.{arith}
 use lib.Dec.{eqb}
 use lib.ListN.{length}
 use Rattle.std.specs.Prelude.{cond}
 use Rattle.answers.proofs.AreaLaws.{written-whole, one_written}
 use Rattle.telling.specs.Theorems.{Same, One, OneTold, OneFault, TextFits}
-use Rattle.telling.specs.Promise.{no_state, Refused, refused, OfInput}
+use Rattle.telling.specs.Promise.{no_state, Refused, refused, OfInput, good, long}
+use Rattle.telling.specs.declared.Told.{Told}
+use Rattle.telling.specs.declared.Told.TheVariants.{Answer, Fault}
 
 pub one_fault : OneFault
 one_fault words _ _ _ _ refused refused = record { good = refl; text = refl }
@@ -23,11 +25,17 @@ one_of_input area Is one good₁ good₂ text₁ text₂ a b = go (eqb (length a
     go true c d = one_fault no_state good₁ good₂ text₁ text₂ c d
     go false c d = one good₁ good₂ text₁ text₂ c d
 
+same_told : (r r' : Told) → good r ≡ good r' → long r ≡ long r' → r ≡ r'
+same_told (Answer n) (Answer m) e d = ap Answer d
+same_told (Answer n) (Fault m) e d = absurd (true≢false e)
+same_told (Fault n) (Answer m) e d = absurd (false≢true e)
+same_told (Fault n) (Fault m) e d = ap Fault d
+
 pub one_told : OneTold
 one_told Is one room old new new' r r' a b =
-    let e = one r.good r'.good a.text b.text a.is b.is in
+    let e = one (good r) (good r') a.text b.text a.is b.is in
     let written = one_written e.text a.written b.written in
-    ((λ i. record { good = e.good i; length = written.0 i }), written.1)
+    (same_told r r' e.good written.0, written.1)
 
 pub text_fits : TextFits
 text_fits Is room old new r g h = written-whole g.written (omega (arith, g.short))

@@ -1,7 +1,7 @@
 -- The theorems about what is told, as statements. Each is proved under its own name in proofs/Theorems.antt.
 -- Assumes nothing.
 use Rattle.std.specs.Prelude.{ℕ, ◌≤◌, Bool, List, ◌≡◌, length, take}
-use Rattle.telling.specs.Promise.{Refused, Gives}
+use Rattle.telling.specs.Promise.{Refused, Gives, long}
 use Rattle.telling.specs.declared.Told.{Told}
 
 -- the same text, and the same word on whether it is what was asked for
@@ -23,4 +23,4 @@ OneFault = (words : List ℕ) → One (Refused words)
 
 -- 3. An area of so many bytes takes the text.
 abbrev pub TextFits : Type 1
-TextFits = (Is : Bool → List ℕ → Type 0) (room : ℕ) (old new : List ℕ) (r : Told) (g : Gives room Is old new r) → room ≤ length old → take r.length new ≡ g.text
+TextFits = (Is : Bool → List ℕ → Type 0) (room : ℕ) (old new : List ℕ) (r : Told) (g : Gives room Is old new r) → room ≤ length old → take (long r) new ≡ g.text

@@ -1,14 +1,16 @@
 // What the programs for people have in common: a text in a lent area, and whether it is what was asked for or a fault. Assumes nothing.
 #![tactic(auto)]
 
+pub mod streams;
+
 ghost use Rattle.std.specs.Prelude.{length};
 ghost use Rattle.telling.specs.Promise.{Refused, no_state, not_sound, Gives};
 
-// Whether it is what was asked for, and how many bytes of the lent area the text takes.
+// What was asked for or a fault, and how many bytes of the lent area the text takes.
 #[derive(Clone, Copy)]
-pub struct Told {
-    pub good: bool,
-    pub length: usize,
+pub enum Told {
+    Answer(usize),
+    Fault(usize),
 }
 
 // Each writes its text at the start of out, without a newline. Where out is too short, nothing is written there and the length is 0.
@@ -17,10 +19,7 @@ pub fn refuse(out: &mut [u8], words: &[u8]) -> Told
     ensures { Gives (length words.now) (Refused words.now) out.old out.new result }
 {
     let length = answers::area::put(out, words);
-    Told {
-        good: false,
-        length,
-    }
+    Told::Fault(length)
 }
 
 pub fn no_state(out: &mut [u8]) -> Told

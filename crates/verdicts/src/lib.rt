@@ -7,7 +7,8 @@ ghost use Rattle.plain.specs.Listing.{few_rows};
 ghost use Rattle.plain.specs.Mailboxes.{no_size};
 ghost use Rattle.plain.specs.Start.{start_refusals};
 ghost use Rattle.plain.specs.Sizes.{processes, longest, highest_count, store_size};
-ghost use Rattle.verdicts.specs.Chain.{or_else, found};
+ghost use Rattle.verdicts.specs.Chain.{found};
+ghost use Rattle.verdicts.specs.Told.{code_of, number_of, told};
 
 use sizes::Pid;
 
@@ -25,11 +26,28 @@ const HIGHEST_COUNT: u32 = sizes::HIGHEST_COUNT as u32;
 
 const LONGEST_SLICE: u32 = sizes::LONGEST_SLICE as u32;
 
-// What judging a call finds: a refusal, or code 0.
-#[derive(Clone, Copy)]
-pub struct Verdict {
-    pub code: u32,
-    pub number: u32,
+// What refuses a call, each with its own code.
+#[derive(Clone, Copy, PartialEq, Eq)]
+pub enum Refusal {
+    NoProcess,
+    NoClass,
+    NoMailbox,
+    NoSemaphore,
+    NoCaller,
+    LongMessage,
+    HandFull,
+    HandEmpty,
+    // With the length that is needed.
+    ShortRoom(u32),
+    AllProcesses,
+    MailboxFull,
+    NoBuffer,
+    CountFull,
+    NotSound,
+    OtherStore,
+    NoSlice,
+    NoSize,
+    MailboxBusy,
 }
 
 // What the kernel reads off its state before it judges any call: whether it is sound, who runs, and how many ticks a full slice has. What
@@ -41,157 +59,177 @@ pub struct Facts {
     pub slice: u8,
 }
 
-impl Verdict {
-    // This verdict if it refuses, else a refusal with a code and a number where that holds.
-    fn or_with(self, holds: bool, code: u32, number: u32) -> Verdict
-        ensures { result ≡ or_else self (record { code = code; number = number; holds = holds }) }
+impl Refusal {
+    // The code of the answer.
+    pub fn code(self) -> u32
+        ensures { result ≡ code_of self }
     {
-        if self.code != 0 {
-            return self;
+        match self {
+            Refusal::NoProcess => 1,
+            Refusal::NoClass => 2,
+            Refusal::NoMailbox => 3,
+            Refusal::NoSemaphore => 4,
+            Refusal::NoCaller => 5,
+            Refusal::LongMessage => 6,
+            Refusal::HandFull => 7,
+            Refusal::HandEmpty => 8,
+            Refusal::ShortRoom(_) => 9,
+            Refusal::AllProcesses => 10,
+            Refusal::MailboxFull => 11,
+            Refusal::NoBuffer => 12,
+            Refusal::CountFull => 13,
+            Refusal::NotSound => 14,
+            Refusal::OtherStore => 15,
+            Refusal::NoSlice => 16,
+            Refusal::NoSize => 17,
+            Refusal::MailboxBusy => 18,
         }
-        if holds {
-            return Verdict { code, number };
-        }
-        self
     }
 
-    fn or(self, holds: bool, code: u32) -> Verdict
-        ensures { result ≡ or_else self (on code holds) }
+    // The number of the answer.
+    pub fn number(self) -> u32
+        ensures { result ≡ number_of self }
     {
-        self.or_with(holds, code, 0)
+        match self {
+            Refusal::ShortRoom(needed) => needed,
+            _ => 0,
+        }
     }
 }
 
-fn either(a: bool, b: bool) -> bool
-    ensures { result ≡ (a || b) }
+fn refuse_if(holds: bool, refusal: Refusal) -> Result<(), Refusal>
+    ensures { told result ≡ found (record { code = code_of refusal; number = number_of refusal; holds = holds } ∷ []) }
 {
-    if a {
-        return true;
-    }
-    b
+    if holds { Err(refusal) } else { Ok(()) }
 }
 
 // A fresh start with a slice named. It looks at no state.
-pub fn on_fresh_start(slice: u32) -> Verdict
-    ensures { result ≡ found (start_refusals slice) }
+pub fn on_fresh_start(slice: u32) -> Result<(), Refusal>
+    ensures { told result ≡ found (start_refusals slice) }
 {
-    let v = Verdict { code: 0, number: 0 };
-    v.or(either(slice == 0, LONGEST_SLICE < slice), 16)
+    refuse_if(slice == 0 || LONGEST_SLICE < slice, Refusal::NoSlice)
 }
 
 // A state that is not sound comes before every other refusal.
-pub fn on_tick(f: Facts) -> Verdict
-    ensures { result ≡ found (on 14 (not f.sound) ∷ []) }
+pub fn on_tick(f: Facts) -> Result<(), Refusal>
+    ensures { told result ≡ found (on 14 (not f.sound) ∷ []) }
 {
-    let v = Verdict { code: 0, number: 0 };
-    v.or(!f.sound, 14)
+    refuse_if(!f.sound, Refusal::NotSound)
 }
 
 // Calls that are refused only while 0 runs.
-pub fn on_idle(f: Facts) -> Verdict
-    ensures { result ≡ found (on 14 (not f.sound) ∷ on 5 (eqb f.runner.0 0) ∷ []) }
+pub fn on_idle(f: Facts) -> Result<(), Refusal>
+    ensures { told result ≡ found (on 14 (not f.sound) ∷ on 5 (eqb f.runner.0 0) ∷ []) }
 {
-    on_tick(f).or(f.runner.0 == 0, 5)
+    on_tick(f).and(refuse_if(f.runner.0 == 0, Refusal::NoCaller))
 }
 
-pub fn on_create(f: Facts, class: u32, unused: u32) -> Verdict
-    ensures { result ≡ found (on 14 (not f.sound) ∷ no_class class ∷ on 10 (eqb unused processes) ∷ []) }
+pub fn on_create(f: Facts, class: u32, unused: u32) -> Result<(), Refusal>
+    ensures { told result ≡ found (on 14 (not f.sound) ∷ no_class class ∷ on 10 (eqb unused processes) ∷ []) }
 {
-    on_tick(f)
-        .or(CLASSES <= class, 2)
-        .or(unused == PROCESSES, 10)
+    on_tick(f)?;
+    refuse_if(CLASSES <= class, Refusal::NoClass)?;
+    refuse_if(unused == PROCESSES, Refusal::AllProcesses)
 }
 
 // Process p by a name: whether it is the name of that number, and whether the number is unused.
-pub fn on_stop(f: Facts, p: u32, named: bool, unused: bool) -> Verdict
-    ensures { result ≡ found (on 14 (not f.sound) ∷ on 1 (eqb p 0 || (not named || unused)) ∷ []) }
+pub fn on_stop(f: Facts, p: u32, named: bool, unused: bool) -> Result<(), Refusal>
+    ensures { told result ≡ found (on 14 (not f.sound) ∷ on 1 (eqb p 0 || (not named || unused)) ∷ []) }
 {
-    on_tick(f).or(either(p == 0, either(!named, unused)), 1)
+    on_tick(f).and(refuse_if(p == 0 || !named || unused, Refusal::NoProcess))
 }
 
-pub fn on_class(f: Facts, class: u32) -> Verdict
-    ensures { result ≡ found (on 14 (not f.sound) ∷ on 5 (eqb f.runner.0 0) ∷ no_class class ∷ []) }
+pub fn on_class(f: Facts, class: u32) -> Result<(), Refusal>
+    ensures { told result ≡ found (on 14 (not f.sound) ∷ on 5 (eqb f.runner.0 0) ∷ no_class class ∷ []) }
 {
-    on_idle(f).or(CLASSES <= class, 2)
+    on_idle(f).and(refuse_if(CLASSES <= class, Refusal::NoClass))
 }
 
 // Whether a mailbox may not be set so: 1 to 32 messages, and a mode of 0 or 1.
 fn no_size(capacity: u32, mode: u32) -> bool
     ensures { result ≡ no_size capacity mode }
 {
-    either(either(capacity == 0, MOST_QUEUED < capacity), 1 < mode)
+    capacity == 0 || MOST_QUEUED < capacity || 1 < mode
 }
 
 // It is busy with messages or waiters.
-pub fn on_mailbox(f: Facts, m: u32, capacity: u32, mode: u32, busy: bool) -> Verdict
-    ensures { result ≡ found (on 14 (not f.sound) ∷ no_mailbox m ∷ on 17 (no_size capacity mode) ∷ on 18 busy ∷ []) }
+pub fn on_mailbox(f: Facts, m: u32, capacity: u32, mode: u32, busy: bool) -> Result<(), Refusal>
+    ensures { told result ≡ found (on 14 (not f.sound) ∷ no_mailbox m ∷ on 17 (no_size capacity mode) ∷ on 18 busy ∷ []) }
 {
-    on_tick(f)
-        .or(MAILBOXES <= m, 3)
-        .or(no_size(capacity, mode), 17)
-        .or(busy, 18)
+    on_tick(f)?;
+    refuse_if(MAILBOXES <= m, Refusal::NoMailbox)?;
+    refuse_if(no_size(capacity, mode), Refusal::NoSize)?;
+    refuse_if(busy, Refusal::MailboxBusy)
 }
 
 // The mailbox refuses where it is full and does not drop; too few buffers are free for the message once what it drops has left its own.
-pub fn on_send(f: Facts, held: usize, m: u32, n: usize, refuses: bool, few: bool) -> Verdict
-    ensures { result ≡ found (on 14 (not f.sound) ∷ on 15 (not (eqb held store_size)) ∷ no_mailbox m ∷ on 6 (ltb longest n) ∷ on 11 refuses ∷ on 12 few ∷ []) }
+pub fn on_send(
+    f: Facts,
+    held: usize,
+    m: u32,
+    n: usize,
+    refuses: bool,
+    few: bool,
+) -> Result<(), Refusal>
+    ensures { told result ≡ found (on 14 (not f.sound) ∷ on 15 (not (eqb held store_size)) ∷ no_mailbox m ∷ on 6 (ltb longest n) ∷ on 11 refuses ∷ on 12 few ∷ []) }
 {
-    on_tick(f)
-        .or(held != sizes::STORE_SIZE, 15)
-        .or(MAILBOXES <= m, 3)
-        .or(sizes::LONGEST < n, 6)
-        .or(refuses, 11)
-        .or(few, 12)
+    on_tick(f)?;
+    refuse_if(held != sizes::STORE_SIZE, Refusal::OtherStore)?;
+    refuse_if(MAILBOXES <= m, Refusal::NoMailbox)?;
+    refuse_if(sizes::LONGEST < n, Refusal::LongMessage)?;
+    refuse_if(refuses, Refusal::MailboxFull)?;
+    refuse_if(few, Refusal::NoBuffer)
 }
 
-pub fn on_receive(f: Facts, m: u32, hand: bool) -> Verdict
-    ensures { result ≡ found (on 14 (not f.sound) ∷ on 5 (eqb f.runner.0 0) ∷ no_mailbox m ∷ on 7 hand ∷ []) }
+pub fn on_receive(f: Facts, m: u32, hand: bool) -> Result<(), Refusal>
+    ensures { told result ≡ found (on 14 (not f.sound) ∷ on 5 (eqb f.runner.0 0) ∷ no_mailbox m ∷ on 7 hand ∷ []) }
 {
-    on_idle(f).or(MAILBOXES <= m, 3).or(hand, 7)
+    on_idle(f)?;
+    refuse_if(MAILBOXES <= m, Refusal::NoMailbox)?;
+    refuse_if(hand, Refusal::HandFull)
 }
 
-pub fn on_release(f: Facts, hand: bool) -> Verdict
-    ensures { result ≡ found (on 14 (not f.sound) ∷ on 5 (eqb f.runner.0 0) ∷ on 8 (not hand) ∷ []) }
+pub fn on_release(f: Facts, hand: bool) -> Result<(), Refusal>
+    ensures { told result ≡ found (on 14 (not f.sound) ∷ on 5 (eqb f.runner.0 0) ∷ on 8 (not hand) ∷ []) }
 {
-    on_idle(f).or(!hand, 8)
+    on_idle(f).and(refuse_if(!hand, Refusal::HandEmpty))
 }
 
-pub fn on_read(f: Facts, held: usize, room: usize, hand: bool, length: u32) -> Verdict
-    ensures { result ≡ found (on 14 (not f.sound) ∷ on 15 (not (eqb held store_size)) ∷ on 5 (eqb f.runner.0 0) ∷ on 8 (not hand) ∷ record { code = 9; number = length; holds = ltb room length } ∷ []) }
+pub fn on_read(f: Facts, held: usize, room: usize, hand: bool, length: u32) -> Result<(), Refusal>
+    ensures { told result ≡ found (on 14 (not f.sound) ∷ on 15 (not (eqb held store_size)) ∷ on 5 (eqb f.runner.0 0) ∷ on 8 (not hand) ∷ record { code = 9; number = length; holds = ltb room length } ∷ []) }
 {
-    on_tick(f)
-        .or(held != sizes::STORE_SIZE, 15)
-        .or(f.runner.0 == 0, 5)
-        .or(!hand, 8)
-        .or_with(room < length as usize, 9, length)
+    on_tick(f)?;
+    refuse_if(held != sizes::STORE_SIZE, Refusal::OtherStore)?;
+    refuse_if(f.runner.0 == 0, Refusal::NoCaller)?;
+    refuse_if(!hand, Refusal::HandEmpty)?;
+    refuse_if(room < length as usize, Refusal::ShortRoom(length))
 }
 
-pub fn on_signal(f: Facts, i: u32, count: u32) -> Verdict
-    ensures { result ≡ found (on 14 (not f.sound) ∷ no_semaphore i ∷ on 13 (eqb count highest_count) ∷ []) }
+pub fn on_signal(f: Facts, i: u32, count: u32) -> Result<(), Refusal>
+    ensures { told result ≡ found (on 14 (not f.sound) ∷ no_semaphore i ∷ on 13 (eqb count highest_count) ∷ []) }
 {
-    on_tick(f)
-        .or(SEMAPHORES <= i, 4)
-        .or(count == HIGHEST_COUNT, 13)
+    on_tick(f)?;
+    refuse_if(SEMAPHORES <= i, Refusal::NoSemaphore)?;
+    refuse_if(count == HIGHEST_COUNT, Refusal::CountFull)
 }
 
-pub fn on_wait(f: Facts, i: u32) -> Verdict
-    ensures { result ≡ found (on 14 (not f.sound) ∷ on 5 (eqb f.runner.0 0) ∷ no_semaphore i ∷ []) }
+pub fn on_wait(f: Facts, i: u32) -> Result<(), Refusal>
+    ensures { told result ≡ found (on 14 (not f.sound) ∷ on 5 (eqb f.runner.0 0) ∷ no_semaphore i ∷ []) }
 {
-    on_idle(f).or(SEMAPHORES <= i, 4)
+    on_idle(f).and(refuse_if(SEMAPHORES <= i, Refusal::NoSemaphore))
 }
 
 // A table of rows must have one for each process.
-pub fn on_listing(sound: bool, rows: usize) -> Verdict
-    ensures { result ≡ found (on 14 (not sound) ∷ few_rows rows ∷ []) }
+pub fn on_listing(sound: bool, rows: usize) -> Result<(), Refusal>
+    ensures { told result ≡ found (on 14 (not sound) ∷ few_rows rows ∷ []) }
 {
-    let v = Verdict { code: 0, number: 0 };
-    v.or(!sound, 14)
-        .or_with(rows < sizes::PROCESSES, 9, PROCESSES)
+    refuse_if(!sound, Refusal::NotSound)?;
+    refuse_if(rows < sizes::PROCESSES, Refusal::ShortRoom(PROCESSES))
 }
 
 // Why a process waits may be asked by the name of each number, also of 0 and of one that is unused.
-pub fn on_why(f: Facts, named: bool) -> Verdict
-    ensures { result ≡ found (on 14 (not f.sound) ∷ on 1 (not named) ∷ []) }
+pub fn on_why(f: Facts, named: bool) -> Result<(), Refusal>
+    ensures { told result ≡ found (on 14 (not f.sound) ∷ on 1 (not named) ∷ []) }
 {
-    on_tick(f).or(!named, 1)
+    on_tick(f).and(refuse_if(!named, Refusal::NoProcess))
 }

@@ -2,6 +2,7 @@
 -- Assumes nothing.
 use Rattle.std.specs.Prelude.{ℕ, ◌≤◌, List, ◌≡◌, length, take}
 use Rattle.wording.specs.Promises.{room}
+use Rattle.telling.specs.Promise.{long}
 use Rattle.telling.specs.declared.Told.{Told}
 use Rattle.why.specs.Promise.{Answers}
 
@@ -11,4 +12,4 @@ OneText = (area word old new new' : List ℕ) (r r' : Told) → Answers area wor
 
 -- 2. An area of so many bytes takes every text.
 abbrev pub EveryTextFits : Type 0
-EveryTextFits = (area word old new : List ℕ) (r : Told) (a : Answers area word old new r) → room ≤ length old → take r.length new ≡ a.text
+EveryTextFits = (area word old new : List ℕ) (r : Told) (a : Answers area word old new r) → room ≤ length old → take (long r) new ≡ a.text

@@ -3,7 +3,7 @@ ghost use Rattle.wording.specs.Promises.{room};
 ghost use Rattle.telling.specs.Promise.{OfInput, Gives};
 ghost use Rattle.why.specs.Promise.{Explained, Answers};
 
-use script::numbers::{Number, read_number};
+use script::numbers::read_number;
 use telling::Told;
 
 // The answer to the question, in words.
@@ -15,16 +15,15 @@ fn explain(state: &[u8], name: u32, out: &mut [u8]) -> Told
     if a.code == 14 {
         return telling::not_sound(out);
     }
-    if a.code != 0 {
+    let Some(reason) = w.reason else {
         return telling::refuse(
             out,
             b"No process has this name now. The status page has the names.",
         );
-    }
-    let reason = w.reason;
+    };
     let p = names::bare(name);
     let length = wording::put_sentence(out, p as u8, reason);
-    Told { good: true, length }
+    Told::Answer(length)
 }
 
 fn about(state: &[u8], name: u32, out: &mut [u8]) -> Told
@@ -40,7 +39,7 @@ fn about(state: &[u8], name: u32, out: &mut [u8]) -> Told
 pub(crate) fn tell(state: &[u8], word: &[u8], out: &mut [u8]) -> Told
     ensures { Answers state.now word.now out.old out.new result }
 {
-    let Number::Is(name) = read_number(word) else {
+    let Some(name) = read_number(word) else {
         return telling::refuse(
             out,
             b"Which process? Its name is wanted, as create answered it.",

@@ -4,10 +4,10 @@
 
 mod explaining;
 
-ghost use Rattle.std.specs.Prelude.{◌≤◌, length, IfOk};
-
 use std::env::Env;
 use std::io;
+use telling::Told;
+use telling::streams::{read_full, write_line};
 use wording::LONGEST;
 
 // Linux hands a program no longer word.
@@ -16,47 +16,24 @@ const LONGEST_WORD: usize = 131072;
 // One byte more than a state area has, so that a longer input is seen as one of another length.
 const INPUT: usize = board::SIZE + 1;
 
-// The letters of the first word after the program's name; none where there is no such word.
-fn first_word(rt: &impl Env, word: &mut [u8]) -> usize
-    ensures { result ≤ length word.new }
-{
-    match rt.arg(1, word) {
-        Ok(letters) => letters,
-        Err(_) => 0,
+// The first word after the program's name, in the lent area; empty where there is no such word.
+fn first_word<'a>(rt: &impl Env, area: &'a mut [u8]) -> &'a [u8] {
+    match rt.arg(1, area) {
+        Ok(letters) => &area[..letters],
+        Err(_) => &[],
     }
-}
-
-// Reads until the area is full or the input ends; gives how many bytes were read.
-fn read_full(reader: &mut impl io::Read, area: &mut [u8]) -> io::Result<usize>
-    ensures { IfOk result (λ got. got ≤ length area.new) }
-{
-    let mut at = 0;
-    while at < area.len() {
-        let got = reader.read(&mut area[at..])?;
-        if got == 0 {
-            return Ok(at);
-        }
-        at += got;
-    }
-    Ok(at)
-}
-
-fn write_line(to: &impl Print, text: &[u8]) -> io::Result<()> {
-    to.write_all(text)?;
-    to.write_all(b"\n")
 }
 
 #[tactic(auto, using(answers::proofs::AreaLaws::written_within))]
 fn main(rt: HostRuntime) -> io::Result<()> {
-    let mut word = [0u8; LONGEST_WORD];
-    let letters = first_word(&rt, &mut word);
-    let mut state = [0u8; INPUT];
-    let got = read_full(&mut rt.stdin(), &mut state)?;
+    let mut letters = [0u8; LONGEST_WORD];
+    let word = first_word(&rt, &mut letters);
+    let mut area = [0u8; INPUT];
+    let got = read_full(&mut rt.stdin(), &mut area)?;
+    let state = &area[..got];
     let mut out = [0u8; LONGEST];
-    let told = explaining::tell(&state[..got], &word[..letters], &mut out);
-    let end = told.length;
-    if told.good {
-        return write_line(&rt.stdout(), &out[..end]);
+    match explaining::tell(state, word, &mut out) {
+        Told::Answer(end) => write_line(&mut io::writer(&rt.stdout()), &out[..end]),
+        Told::Fault(end) => write_line(&mut io::writer(&rt.stderr()), &out[..end]),
     }
-    write_line(&rt.stderr(), &out[..end])
 }

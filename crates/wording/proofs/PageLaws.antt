@@ -27,10 +27,11 @@ one-space-more : (k : ℕ) → replicate k space ++ (space ∷ []) ≡ replicate
 one-space-more zero = refl
 one-space-more (suc k) = ap (λ (l : List ℕ). space ∷ l) (one-space-more k)
 
-pub more-space : (s : List ℕ) (i n : ℕ) → n ≤ i → more (more s (replicate (i - n) space)) (space ∷ []) ≡ more s (replicate ((i + 1) - n) space)
-more-space s i n h =
-    let next : (i + 1) - n ≡ suc (i - n) = omega arith in
-    rw (next, more-more) (ap (more s) (one-space-more (i - n)))
+-- a text, and behind it as many spaces as i is past its end
+pub more-space : (s text : List ℕ) (i : ℕ) → length text ≤ i → more (more s (text ++ replicate (i - length text) space)) (space ∷ []) ≡ more s (text ++ replicate ((i + 1) - length text) space)
+more-space s text i h =
+    let next : (i + 1) - length text ≡ suc (i - length text) = omega arith in
+    rw (next, more-more, append_assoc) (ap (λ (l : List ℕ). more s (text ++ l)) (one-space-more (i - length text)))
 
 cell-length : (width : ℕ) (text : List ℕ) → length text ≤ width → length (cell width text) ≡ width
 unfolding cell

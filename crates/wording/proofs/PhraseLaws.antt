@@ -1,14 +1,15 @@
 -- Laws of a text that grows at its end: piece by piece it is the pieces together, as far as there is room.
 -- Assumes nothing.
-use Prim.Native.Nat.{ℕ, zero, suc, ◌+◌, ◌≤◌, ◌<◌}
-use mathlib.Core.List.{List, [], ◌∷◌, ◌++◌, append_assoc, append-nil}
+use Prim.Native.Nat.{ℕ, zero, suc, ◌+◌, ◌-◌, ◌≤◌, ◌<◌, min}
+use mathlib.Core.List.{List, [], ◌∷◌, ◌++◌, append_assoc}
 use mathlib.Core.Path.{◌≡◌, refl, sym, ap, ◌∙◌}
 use native.Mathlib.Omega.{arith}
-use native.Mathlib.Numerals.{add-one}
-use lib.ListN.{length, get_or, set, take, length-append, length-take}
-use lib.Seq.{take_all, take-suc, take-suc-set, take-append-le, length-take-le}
-use Rattle.wording.specs.Promises.{room, so_far, more}
-use Rattle.wording.specs.declared.phrase.Phrase.{Phrase}
+use mathlib.Core.Logic.{⊎_elim}
+use borrow.Rule.Slice.PartMut.{put_mid, post_of}
+use Rattle.lists.proofs.Laws.{le?}
+use lib.ListN.{length, take, length-append}
+use lib.Seq.{take_all, take-append_seam, take-append-add, length-take-le}
+use Rattle.wording.specs.Promises.{room, more}
 
 take_front : (n : ℕ) (a b : List ℕ) → take n (take n a ++ b) ≡ take n (a ++ b)
 take_front zero a b = refl
@@ -24,26 +25,21 @@ pub more_fits : (s l : List ℕ) → length (s ++ l) ≤ room → more s l ≡ s
 unfolding more
 more_fits s l h = take_all room (s ++ l) h
 
-module _ (t : Phrase) (size : length t.bytes ≡ room) where
-  pub shown_short : length (so_far t) ≤ room
-  shown_short = omega (arith, length-take t.length t.bytes)
-
-  pub more_none : so_far t ≡ more (so_far t) []
-  more_none = sym (more_fits (so_far t) [] (simp append-nil shown_short) ∙ append-nil (so_far t))
-
-  -- one byte, where there is room and where there is none
-  pub more_byte : (b : ℕ) → t.length < room → take (t.length + 1) (set t.bytes t.length b) ≡ more (so_far t) (b ∷ [])
-  more_byte b h =
-      let n = t.length in
-      let short : length (so_far t ++ (b ∷ [])) ≤ room = rw (length-append (so_far t) (b ∷ []), length-take-le n t.bytes (omega arith)) (omega arith) in
-      rw (add-one, more_fits (so_far t) (b ∷ []) short) (take-suc-set t.bytes n b (omega arith))
-
-  pub more_full : (l : List ℕ) → room ≤ t.length → so_far t ≡ more (so_far t) l
-  unfolding more
-  more_full l h =
-      let whole : so_far t ≡ t.bytes = take_all t.length t.bytes (omega arith) in
-      rw whole (sym (take-append-le room t.bytes l (omega arith) ∙ take_all room t.bytes (omega arith)))
-
--- one byte more of a piece
-pub more_next : (s l : List ℕ) (i : ℕ) → i < length l → more (more s (take i l)) (get_or l i 0 ∷ []) ≡ more s (take (i + 1) l)
-more_next s l i h = more-more s (take i l) (get_or l i 0 ∷ []) ∙ ap (more s) (sym (rw add-one (take-suc l i 0 h)))
+-- a piece put behind the first bytes of a buffer, as far as there is room
+pub more_bytes : (bytes : List ℕ) (start end n : ℕ) (piece : List ℕ) → length bytes ≡ room → start ≤ room → end ≡ min room (start + length piece) → n ≡ end - start → take end (put_mid start n bytes (take n piece)) ≡ more (take start bytes) piece
+unfolding more
+more_bytes bytes start end n piece size within upto many =
+    let front : List ℕ = take start bytes in
+    let long : length front ≡ start = length-take-le start bytes (omega arith) in
+    let said : length (take n piece) ≡ n = length-take-le n piece (omega arith) in
+    let whole : end ≡ length (front ++ take n piece) = rw (length-append front (take n piece)) (omega arith) in
+    let here : take end (front ++ (take n piece ++ post_of start n bytes)) ≡ front ++ take n piece =
+    rw (whole, ← append_assoc front (take n piece) (post_of start n bytes)) (take-append_seam (front ++ take n piece) (post_of start n bytes)) in
+    let past : room ≡ length front + (room - start) = omega arith in
+    here ∙ ap (λ (l : List ℕ). front ++ l) (sym (cut piece (room - start) n (omega arith))) ∙ sym (ap (λ (k : ℕ). take k (front ++ piece)) past ∙ take-append-add front piece (room - start))
+  where
+    cut : (l : List ℕ) (k n : ℕ) → n ≡ min k (length l) → take k l ≡ take n l
+    cut l k n e = ⊎_elim
+        (λ (h : k ≤ length l). let same : n ≡ k = omega arith in rw same)
+        (λ (h : length l < k). take_all k l (omega arith) ∙ sym (take_all n l (omega arith)))
+        (le? k (length l))

@@ -2,14 +2,9 @@
 -- Assumes nothing.
 use Rattle.std.specs.Prelude.{ℕ, ◌+◌, ◌^◌, ◌≤◌, ◌<◌, List, ◌++◌, ◌≡◌, length, take}
 use Rattle.plain.specs.Why.{Reason, numbers}
-use Rattle.wording.specs.declared.phrase.Phrase.{Phrase}
 
 abbrev pub room : ℕ
 room = 96
-
--- what stands in it
-abbrev pub so_far : Phrase → List ℕ
-so_far t = take t.length t.bytes
 
 -- a text, and then l, as far as there is room
 unfoldable pub more : List ℕ → List ℕ → List ℕ

@@ -17,7 +17,7 @@ ghost use Rattle.wording.specs.Page.{page, page_room, row_at};
 ghost use Rattle.wording.specs.Promises.{room};
 ghost use Rattle.wording.specs.Words.{reason_line, sentence};
 
-use crate::phrase::{nothing, say, say_number};
+use crate::phrase::Phrase;
 use reasons::Reason;
 use rows::Row;
 use sizes::PROCESSES;
@@ -39,16 +39,16 @@ pub fn put_reason_line(
 ) -> usize
     ensures { Written (reason_line (answer code number running) (meant reason)) out.old out.new result }
 {
-    let line = say(phrase::line(code, number, running), b" ");
-    phrase::put(out, words::say_words(line, reason))
+    let line = Phrase::line(code, number, running).say(b" ");
+    words::say_words(line, reason).put(out)
 }
 
 pub fn put_sentence(out: &mut [u8], process: u8, reason: Reason) -> usize
     ensures written { Written (sentence process (meant reason)) out.old out.new result }
     ensures short { length (sentence process (meant reason)) ≤ room }
 {
-    let who = say_number(say(nothing(), b"Process "), process);
-    phrase::put(out, sentence::say_about(who, reason))
+    let who = Phrase::new().say(b"Process ").say_number(process);
+    sentence::say_about(who, reason).put(out)
 }
 
 // The page of the rows of all processes, with the names that these birth counts give them.

@@ -4,9 +4,9 @@ ghost use Rattle.names.specs.Counts.{count_in};
 ghost use Rattle.plain.specs.Names.{name};
 ghost use Rattle.plain.specs.Sizes.{processes};
 ghost use Rattle.wording.specs.Page.{header, is_used, line_of, lines, unused_in, unused_line, page, page_room, row_at};
-ghost use Rattle.wording.specs.Promises.{room, so_far, Adds};
+ghost use Rattle.wording.specs.Promises.{room, Adds};
 
-use crate::phrase::{Phrase, nothing, put, say, say_number};
+use crate::phrase::Phrase;
 use crate::row::row_line;
 use rows::{Row, STANDING_BY, UNUSED};
 use sizes::PROCESSES;
@@ -15,24 +15,21 @@ use sizes::PROCESSES;
 pub(crate) const LINES: usize = PROCESSES + 2;
 
 fn header() -> Phrase
-    ensures { so_far result ≡ header }
+    ensures { result ≡ header }
 {
-    say(
-        nothing(),
-        b"Process  Name   Stands                        Class  Ticks left  In hand\n",
-    )
+    Phrase::new().say(b"Process  Name   Stands                        Class  Ticks left  In hand\n")
 }
 
 fn unused_line(n: u8) -> Phrase
-    ensures { so_far result ≡ unused_line n }
+    ensures { result ≡ unused_line n }
 {
     if n == 0 {
-        return say(nothing(), b"No process is unused.\n");
+        return Phrase::new().say(b"No process is unused.\n");
     }
     if n == 1 {
-        return say(nothing(), b"1 process is unused.\n");
+        return Phrase::new().say(b"1 process is unused.\n");
     }
-    say(say_number(nothing(), n), b" processes are unused.\n")
+    Phrase::new().say_number(n).say(b" processes are unused.\n")
 }
 
 fn is_used(row: Row) -> bool
@@ -58,21 +55,19 @@ fn unused_in(rows: [Row; PROCESSES]) -> u8
     ensures { result ≡ unused_in processes (row_at rows) }
 {
     let mut count = 0u8;
-    let mut i = 0;
-    while i < PROCESSES {
-        count += unused(rows[i]);
-        i += 1;
+    for row in &rows {
+        count += unused(*row);
     }
     count
 }
 
-// Each lay function writes behind the first `at` bytes of out and gives where that ends.
+// Each lay function writes behind the first `at` bytes of out and gives where that ends: an area with a length beside it, since there is no heap.
 
 fn lay(out: &mut [u8], at: usize, t: Phrase) -> usize
     requires { at + room ≤ length out.old }
-    ensures { Adds room (so_far t) out.old out.new at result }
+    ensures { Adds room t out.old out.new at result }
 {
-    at + put(&mut out[at..], t)
+    at + t.put(&mut out[at..])
 }
 
 fn lay_row(out: &mut [u8], at: usize, births: [u8; PROCESSES], process: u8, row: Row) -> usize
@@ -90,10 +85,8 @@ fn lay_rows(out: &mut [u8], at: usize, births: [u8; PROCESSES], rows: [Row; PROC
     ensures { Adds (processes * room) (lines processes (name (count_in births)) (row_at rows)) out.old out.new at result }
 {
     let mut end = at;
-    let mut i = 0;
-    while i < PROCESSES {
+    for i in 0..PROCESSES {
         end = lay_row(out, end, births, i as u8, rows[i]);
-        i += 1;
     }
     end
 }

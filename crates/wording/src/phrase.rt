@@ -1,88 +1,82 @@
 // A text that grows at its end, as far as there is room. Assumes nothing.
-ghost use Rattle.std.specs.Prelude.{◌≡◌, [], ◌∷◌, ◌≤◌, take};
+ghost use Rattle.std.specs.Prelude.{ℕ, List, ◌≡◌, [], ◌≤◌, length, take};
 ghost use Rattle.answers.specs.Answer.{answer, decimal, line};
 ghost use Rattle.answers.specs.Written.{Written};
-ghost use Rattle.wording.specs.Promises.{room, so_far, more};
+ghost use Rattle.wording.specs.Promises.{room, more};
+
+use std::marker::Model;
 
 pub(crate) const ROOM: usize = 96;
 
-#[derive(Clone, Copy)]
+// A buffer with a length beside it, since there is no heap: outside it is the text.
+#[derive(Drop)]
 pub(crate) struct Phrase {
-    pub bytes: [u8; ROOM],
+    bytes: [u8; ROOM],
     length: usize,
 }
 
-pub(crate) fn nothing() -> Phrase
-    ensures { so_far result ≡ [] }
-{
-    let bytes = [0; ROOM];
-    Phrase { bytes, length: 0 }
+impl Model for Phrase {
+    ghost Value = { List ℕ };
+
+    ghost view = { λ t. take t.length t.bytes };
+
+    ghost invariant = { λ t. t.length ≤ room };
 }
 
-// An answer's line always has room.
-pub(crate) fn line(code: u32, number: u32, running: u32) -> Phrase
-    ensures { so_far result ≡ line (answer code number running) }
-{
-    let mut bytes = [0; ROOM];
-    let length = answers::put_line(&mut bytes, code, number, running);
-    Phrase { bytes, length }
-}
-
-pub(crate) fn add(t: Phrase, b: u8) -> Phrase
-    ensures { so_far result ≡ more (so_far t) (b ∷ []) }
-{
-    let at = t.length;
-    if ROOM <= at {
-        return t;
+impl Phrase {
+    pub(crate) fn new() -> Phrase
+        ensures { result ≡ [] }
+    {
+        Phrase {
+            bytes: [0; ROOM],
+            length: 0,
+        }
     }
-    let mut bytes = t.bytes;
-    bytes[at] = b;
-    Phrase {
-        bytes,
-        length: at + 1,
+
+    // An answer's line always has room.
+    pub(crate) fn line(code: u32, number: u32, running: u32) -> Phrase
+        ensures { result ≡ line (answer code number running) }
+    {
+        let mut bytes = [0; ROOM];
+        let length = answers::put_line(&mut bytes, code, number, running);
+        Phrase { bytes, length }
     }
-}
 
-pub(crate) fn say(t: Phrase, piece: &[u8]) -> Phrase
-    ensures { so_far result ≡ more (so_far t) piece.now }
-{
-    let mut text = t;
-    let mut i = 0;
-    while i < piece.len() {
-        text = add(text, piece[i]);
-        i += 1;
+    pub(crate) fn say(mut self, piece: &[u8]) -> Phrase
+        ensures { result ≡ more self piece.now }
+    {
+        let start = self.length;
+        let end = ROOM.min(start + piece.len());
+        self.bytes[start..end].copy_from_slice(&piece[..end - start]);
+        self.length = end;
+        self
     }
-    text
-}
 
-pub(crate) fn say_decimal(t: Phrase, n: u32) -> Phrase
-    ensures { so_far result ≡ more (so_far t) (decimal n) }
-{
-    let mut digits = [0; 10];
-    let end = answers::put_decimal(&mut digits, n);
-    say(t, &digits[..end])
-}
-
-pub(crate) fn say_number(t: Phrase, n: u8) -> Phrase
-    ensures { so_far result ≡ more (so_far t) (decimal n) }
-{
-    say_decimal(t, n as u32)
-}
-
-// How many of the bytes are the text.
-pub(crate) fn used(t: Phrase) -> usize
-    ensures { (result ≤ room) × (take result t.bytes ≡ so_far t) }
-{
-    if ROOM <= t.length {
-        return ROOM;
+    pub(crate) fn say_decimal(self, n: u32) -> Phrase
+        ensures { result ≡ more self (decimal n) }
+    {
+        let mut digits = [0; 10];
+        let end = answers::put_decimal(&mut digits, n);
+        self.say(&digits[..end])
     }
-    t.length
-}
 
-pub(crate) fn put(out: &mut [u8], t: Phrase) -> usize
-    ensures { Written (so_far t) out.old out.new result }
-{
-    let bytes = t.bytes;
-    let end = used(t);
-    answers::area::put(out, &bytes[..end])
+    pub(crate) fn say_number(self, n: u8) -> Phrase
+        ensures { result ≡ more self (decimal n) }
+    {
+        self.say_decimal(n as u32)
+    }
+
+    pub(crate) fn text(&self) -> &[u8]
+        ensures whole { result.now ≡ self.now }
+        ensures short { length self.now ≤ room }
+    {
+        &self.bytes[..self.length]
+    }
+
+    pub(crate) fn put(&self, out: &mut [u8]) -> usize
+        ensures written { Written self.now out.old out.new result }
+        ensures short { length self.now ≤ room }
+    {
+        answers::area::put(out, self.text())
+    }
 }

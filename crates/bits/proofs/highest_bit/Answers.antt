@@ -1,16 +1,21 @@
--- `bits::highest_bit` meets its contract: the zeros above the highest bit that is on, that bit and those below it make the width.
+-- `bits::highest_bit` meets its contract: the logarithm rounded down is the number of the highest bit that is on.
 -- Assumes nothing.
-use Rattle.bits.proofs.Words.{bits_above, highest_none, leading_highest}
+use Prim.Native.Nat.{ℕ, ◌*◌, ◌^◌, ◌≤◌, ◌<◌}
+use Rattle.bits.proofs.Words.{bits_above, highest_none, highest_power}
 use Rattle.bits.proofs.highest_bit.Goals as goal
-use Rattle.bits.specs.Word.{width, bits}
-use mathlib.Core.Path.{sym}
+use Rattle.bits.specs.Word.{width, bits, highest}
+use Rattle.std.specs.Option.{IfNone, IfSome, unwrap_or}
+use Rattle.std.specs.Prelude.{Option, Some, None}
+use mathlib.Core.Path.{◌≡◌, sym, ◌∙◌}
+use native.Mathlib.Nat.{pow-suc}
 use native.Mathlib.Omega.{arith}
 
-pub returns-then-w-eq0 : goal.returns-then-w-eq0
-returns-then-w-eq0 c = sym (highest_none width width (bits c.args.w) (λ i b. bits_above 0 c.args.w i (omega arith) (omega arith)))
-
-pub overflow_sub-result-2 : goal.overflow_sub-result-2
-overflow_sub-result-2 c = omega (arith, leading_highest width width c.args.w (omega arith) c.ranges.w.fits)
+logarithm : (w : ℕ) (o : Option ℕ) → IfNone o (w ≡ 0) → IfSome o (λ k. 2 ^ k ≤ w) → IfSome o (λ k. w < 2 * 2 ^ k) → IfSome o (λ k. k < width)
+    → unwrap_or o width ≡ highest width width (bits w)
+logarithm w None z l u b = sym (highest_none width width (bits w) (λ i h. bits_above 0 w i (omega arith) (omega arith)))
+logarithm w (Some k) z l u b = sym (highest_power width width k w b l (omega (arith, pow-suc 2 k)))
 
 pub returns : goal.returns
-returns c = omega (arith, leading_highest width width c.args.w (omega arith) c.ranges.w.fits)
+returns c =
+    let h = c.checked_ilog2 in
+    c.unwrap_or.ensures ∙ logarithm c.args.w h.result h.ensures.none h.ensures.power_le h.ensures.next_power_gt h.ensures.bound

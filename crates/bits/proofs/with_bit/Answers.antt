@@ -6,8 +6,8 @@ use Rattle.bits.specs.Word.{width}
 use mathlib.Core.Bool.{true}
 use native.Mathlib.Omega.{arith}
 
-pub returns-then-i-lt-WIDTH : goal.returns-then-i-lt-WIDTH
-returns-then-i-lt-WIDTH c = bit-set width c.args.w c.args.i c.ranges.w.fits (omega arith)
+pub returns-then-i-lt-BITS : goal.returns-then-i-lt-BITS
+returns-then-i-lt-BITS c = bit-set width c.args.w c.args.i c.ranges.w.fits (omega arith)
 
-pub returns-else-i-lt-WIDTH : goal.returns-else-i-lt-WIDTH
-returns-else-i-lt-WIDTH c = put_past width c.args.w c.args.i c.ranges.w.fits true (omega arith)
+pub returns-else-i-lt-BITS : goal.returns-else-i-lt-BITS
+returns-else-i-lt-BITS c = put_past width c.args.w c.args.i c.ranges.w.fits true (omega arith)

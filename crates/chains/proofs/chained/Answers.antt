@@ -10,7 +10,4 @@ pub returns-then-separate : goal.returns-then-separate
 returns-then-separate c =
     let a = c.args in
     let s = c.separate in
-    decided_own (map num a.chain) a.need (bits a.free.0) (rw c.if-separate.true at s.ensures) (search rules) c.all_single.result c.all_single.ensures
-
-pub returns : goal.returns
-returns c = c.chained.ensures
+    decided_own (map num a.chain.now) a.need.now (bits a.free.0) (rw c.if-separate.true at s.ensures) (search rules) c.all_single.result c.all_single.ensures

@@ -6,6 +6,3 @@ use native.Mathlib.Omega.{arith}
 
 pub overflow_cast-result : goal.overflow_cast-result
 overflow_cast-result c = omega (arith, c.lowest_bit.ensures, lowest-le 0 width (bits c.args.s))
-
-pub returns : goal.returns
-returns c = c.lowest_bit.ensures

@@ -7,7 +7,4 @@ use Rattle.rings.specs.Decides.{Decides}
 use lib.ListN.{get_or}
 
 abbrev pub invariant-loop-m : goal.invariant-loop-m
-invariant-loop-m l = (l.m ≤ mailboxes) × Decides l.all ((i : ℕ) → i < l.m → Size (get_or l.capacity i 0) (get_or l.mode i 0))
-
-abbrev pub decreases-loop-m : goal.decreases-loop-m
-decreases-loop-m l = mailboxes - l.m
+invariant-loop-m l = Decides l.all ((i : ℕ) → i < l.m → Size (get_or l.capacity i 0) (get_or l.mode i 0))

@@ -8,5 +8,5 @@ returns-then-area-ne-SIZE c = record { whole = λ h. absurd (c.if-area-ne-SIZE.t
 
 pub returns : goal.returns
 unfolding image
-returns c = let g = gots (gots (gots (gots c.procs-procs.ensures c.mail-mail.ensures) c.halfwords.ensures) c.bytes.ensures) c.settings-settings.ensures in
+returns c = let g = gots (gots (gots (gots c.procs.ensures c.mail.ensures) c.halfwords.ensures) c.units.ensures) c.settings.ensures in
     record { whole = λ h. got-whole h g; other = λ h. absurd (h c.if-area-ne-SIZE.false) }

@@ -2,10 +2,7 @@
 use Rattle.image.proofs.Areas.{puts, put_whole}
 use Rattle.image.proofs.write.Goals as goal
 use Rattle.image.specs.Image.{image}
-use Rattle.plain.specs.Sizes.{semaphores}
-use borrow.Author.Rules.{rules}
-use lib.ListN.{length}
-use mathlib.Core.Path.{◌≡◌, refl}
+use mathlib.Core.Path.{refl}
 
 pub returns-then-area-ne-SIZE : goal.returns-then-area-ne-SIZE
 returns-then-area-ne-SIZE c = record { whole = λ h. absurd (c.if-area-ne-SIZE.true h); other = λ h. refl }
@@ -13,6 +10,5 @@ returns-then-area-ne-SIZE c = record { whole = λ h. absurd (c.if-area-ne-SIZE.t
 pub returns : goal.returns
 unfolding image
 returns c =
-    let long : length c.args.k.count ≡ semaphores = search rules in
-    let p = puts (puts (puts (puts c.procs.ensures c.mail.ensures) (rw long at c.halfwords.ensures)) c.births.ensures) c.settings.ensures in
+    let p = puts (puts (puts (puts c.procs.ensures c.mail.ensures) c.halfwords.ensures) c.units.ensures) c.settings.ensures in
     record { whole = λ h. put_whole h p; other = λ h. absurd (h c.if-area-ne-SIZE.false) }

@@ -14,4 +14,4 @@ pub returns : goal.returns
 returns c =
     let long : length c.args.births ≡ processes = search rules in
     let low : (p : ℕ) → Fits w8 (get_or c.args.births p 0) = λ p. search rules in
-    rw c.entry.ensures (null_unborn c.args.births long (λ p. omega (arith, (low p).fits)))
+    null_unborn c.args.births long (λ p. omega (arith, (low p).fits))

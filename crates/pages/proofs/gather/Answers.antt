@@ -1,41 +1,37 @@
--- `pages::gather` meets its contract. The loop's invariant: what the rest fills in, the whole fills in.
--- Assumes nothing.
+-- `pages::gather` meets its contract. Assumes nothing.
 use Prim.Native.Nat.{ℕ, ◌-◌}
 use Rattle.chains.specs.Links.{num, run}
-use Rattle.pages.proofs.Pieces.{pieced_long, filled_more, filled-last}
+use Rattle.pages.proofs.Pieces.{filled_more, filled-last, filled-none}
 use Rattle.pages.proofs.gather.Goals as goal
 use Rattle.pages.specs.Pieces.{filled}
 use Rattle.plain.specs.Pages.{needed}
 use Rattle.plain.specs.Sizes.{buffer_size}
-use borrow.Author.Rules.{rules}
 use mathlib.Core.List.{map}
-use mathlib.Core.Path.{◌≡◌, refl, ap, ◌∙◌}
+use mathlib.Core.Path.{◌≡◌, sym, ap, ◌∙◌}
 use native.Mathlib.Omega.{arith}
 
 pub loop-at-init : goal.loop-at-init
 loop-at-init c =
     let a = c.args in
     let e : a.size - 0 ≡ a.size = omega arith in
-    (search rules, refl, ap (λ (n : ℕ). filled a.room.now 0 a.store.now (run (map num a.chain) (needed n) a.b.0) n) e)
+    ap (λ (n : ℕ). filled a.room.now 0 a.store.now (run (map num a.chain.now) (needed n) a.b.0) n) e
 
 pub loop-at-preserved : goal.loop-at-preserved
 unfolding buffer_size
 loop-at-preserved c =
     let l = c.loop-at in
-    let a = c.args in (
-      search rules,
-      pieced_long l.room _ _ _ _ _ c.place_part.ensures ∙ l.invariant.1,
-      filled_more (map num a.chain) a.store.now l.room _ l.from.0 l.at a.size _ c.start_of.ensures c.place_part.ensures _ c.next-from.ensures c.loop-at-test.true ∙ l.invariant.2,
-    )
-
-pub shape_of-room : goal.shape_of-room
-shape_of-room c =
-    let l = c.loop-at in
-    pieced_long l.room _ _ _ _ _ c.place_part-2.ensures ∙ l.invariant.1
+    let a = c.args in
+    filled_more (map num a.chain.now) a.store.now l.room _ l.from.0 l.at a.size _ c.start_of.ensures _ c.min.ensures c.place_part.ensures _ c.next-from.ensures (omega arith) ∙ l.invariant
 
 pub returns : goal.returns
-unfolding buffer_size
 returns c =
     let l = c.loop-at in
     let a = c.args in
-    filled-last (map num a.chain) a.store.now l.room _ l.from.0 l.at a.size _ c.start_of-2.ensures c.place_part-2.ensures c.loop-at-test.false ∙ l.invariant.2
+    sym (filled-none (map num a.chain.now) a.store.now l.room l.from.0 l.at a.size c.loop-at-test.false) ∙ l.invariant
+
+pub returns-2 : goal.returns-2
+unfolding buffer_size
+returns-2 c =
+    let l = c.loop-at in
+    let a = c.args in
+    filled-last (map num a.chain.now) a.store.now l.room _ l.from.0 l.at a.size _ c.start_of.ensures _ c.min.ensures c.place_part.ensures (omega arith) ∙ l.invariant

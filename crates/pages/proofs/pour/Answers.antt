@@ -1,42 +1,45 @@
--- `pages::pour` meets its contract. The loop's invariant: what the rest writes, the whole writes.
--- Assumes nothing.
-use Prim.Native.Nat.{ℕ, ◌-◌}
+-- `pages::pour` meets its contract. Assumes nothing.
+use Prim.Native.Nat.{ℕ}
 use Rattle.chains.specs.Links.{num, run}
-use Rattle.pages.proofs.Pieces.{placed_long, laid_more, laid-last}
+use Rattle.pages.proofs.Pieces.{laid-none, laid_more}
 use Rattle.pages.proofs.pour.Goals as goal
 use Rattle.pages.specs.Pieces.{laid}
 use Rattle.plain.specs.Pages.{needed}
 use Rattle.plain.specs.Sizes.{buffer_size}
-use borrow.Author.Rules.{rules}
+use Rattle.std.proofs.lemmas.List.{nil_from_length}
+use Rattle.std.specs.Slice.Iter.{chunks_rest, chunks_size}
 use lib.ListN.{length}
-use mathlib.Core.List.{map}
-use mathlib.Core.Path.{◌≡◌, refl, ap, ◌∙◌}
+use mathlib.Core.List.{List, map}
+use mathlib.Core.Path.{sym, ap, ◌∙◌}
 use native.Mathlib.Omega.{arith}
 
-pub loop-at-init : goal.loop-at-init
-loop-at-init c =
-    let a = c.args in
-    let e : length a.message.now - 0 ≡ length a.message.now = omega arith in
-    (search rules, refl, ap (λ (n : ℕ). laid a.store.now (run (map num a.chain) (needed n) a.b.0) a.message.now) e)
-
-pub loop-at-preserved : goal.loop-at-preserved
+pub loop-piece-init : goal.loop-piece-init
 unfolding buffer_size
-loop-at-preserved c =
-    let l = c.loop-at in
-    let a = c.args in (
-      search rules,
-      placed_long l.store _ _ _ c.place.ensures ∙ l.invariant.1,
-      laid_more (map num a.chain) l.store a.message.now _ l.into.0 l.at _ c.start_of.ensures c.place.ensures _ c.next-into.ensures c.loop-at-test.true ∙ l.invariant.2,
-    )
+loop-piece-init c =
+    let a = c.args in
+    let made = c.into_iter-piece-iterator.ensures.into_iter_gives in
+    let size = ap chunks_size made ∙ c.chunks-piece-items.ensures.size in
+    record {
+      callable = omega (arith, size);
+      finite = tt;
+      pieces = size;
+      whole = ap (λ (r : List ℕ). laid a.store.now (run (map num a.chain.now) (needed (length r)) a.b.0) r) (ap chunks_rest made ∙ c.chunks-piece-items.ensures.rest);
+    }
 
-pub shape_of-store : goal.shape_of-store
-shape_of-store c =
-    let l = c.loop-at in
-    placed_long l.store _ _ _ c.place-2.ensures ∙ l.invariant.1
+pub loop-piece-preserved : goal.loop-piece-preserved
+loop-piece-preserved c =
+    let l = c.loop-piece in
+    let steps = c.in-Some.ensures.steps in
+    record {
+      callable = omega (arith, steps.0, l.invariant.callable);
+      finite = tt;
+      pieces = steps.0 ∙ l.invariant.pieces;
+      whole = laid_more (map num c.args.chain.now) l.store _ _ _ _ l.into.0 _ _ c.start_of.ensures c.place.ensures c.next-into.ensures steps.1.0 (rw l.invariant.pieces at steps.1.1) ∙ l.invariant.whole;
+    }
 
 pub returns : goal.returns
-unfolding buffer_size
 returns c =
-    let l = c.loop-at in
-    let a = c.args in
-    laid-last (map num a.chain) l.store a.message.now _ l.into.0 l.at _ c.start_of-2.ensures c.place-2.ensures c.loop-at-test.false ∙ l.invariant.2
+    let l = c.loop-piece in
+    let t = map num c.args.chain.now in
+    let none = nil_from_length _ c.in-None.ensures.steps.1.0 in
+    sym (ap (λ (r : List ℕ). laid l.store (run t (needed (length r)) l.into.0) r) none ∙ laid-none t l.store l.into.0) ∙ l.invariant.whole

@@ -10,8 +10,7 @@ use mathlib.Core.Path.{◌≡◌}
 pub returns : goal.returns
 unfolding tables_of
 returns c =
-    let on = c.bytes_of-on in
-    let back = c.bytes_of-back in
-    let r = c.standing.result in
+    let on = c.bytes_of in
+    let back = c.bytes_of-2 in
     let long : length on.result ≡ 69 = search rules in
-    rw (← on.ensures, ← back.ensures) (found (record { next = on.result; prev = back.result }) long r.ok r.at c.standing.ensures)
+    rw (← on.ensures, ← back.ensures) (found (record { next = on.result; prev = back.result }) long c.standing.result c.standing.ensures)

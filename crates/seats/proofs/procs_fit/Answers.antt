@@ -5,7 +5,6 @@ use Rattle.queues.specs.Queue.{tables_of}
 use Rattle.rings.proofs.Decisions.{decides_as}
 use Rattle.seats.proofs.procs_fit.Goals as goal
 use Rattle.seats.specs.Fits.{Topmost, Fits}
-use borrow.Author.Tests.{not-true, not-false}
 use lib.ListN.{get_or}
 use mathlib.Core.Path.{sym, ◌∙◌}
 use native.Mathlib.Omega.{arith}
@@ -16,11 +15,11 @@ returns-then-running-ge-PROCESSES c = λ f. omega (arith, f.runner)
 
 pub returns-then-not-seats_fit : goal.returns-then-not-seats_fit
 unfolding numbers
-returns-then-not-seats_fit c = λ f. (rw (not-true c.seats_fit.result c.if-not-seats_fit.true-raw) at c.seats_fit.ensures) f.seats
+returns-then-not-seats_fit c = λ f. c.if-not-seats_fit.ensures f.seats
 
-pub returns-then-ready-ready_word : goal.returns-then-ready-ready_word
+pub returns-then-k-ready_word : goal.returns-then-k-ready_word
 unfolding numbers tables_of
-returns-then-ready-ready_word c = λ f. c.if-ready-ready_word.true (f.ready ∙ sym c.ready_word.ensures)
+returns-then-k-ready_word c = λ f. c.if-k-ready_word.true (f.ready ∙ sym c.ready_word.ensures)
 
 pub returns : goal.returns
 unfolding numbers tables_of
@@ -30,8 +29,8 @@ returns c =
     decides_as {P = Topmost k.running (get_or k.class k.running 0) k.ready} (Fits a.slice k a.at) c.is_topmost.result
     (λ t. record {
       runner = omega arith;
-      seats = rw (not-false c.seats_fit.result c.if-not-seats_fit.false-raw) at c.seats_fit.ensures;
-      ready = c.if-ready-ready_word.false ∙ c.ready_word.ensures;
+      seats = c.if-not-seats_fit.ensures;
+      ready = c.if-k-ready_word.false ∙ c.ready_word.ensures;
       topmost = t;
     })
     (λ f. f.topmost)

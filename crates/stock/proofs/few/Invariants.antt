@@ -1,5 +1,5 @@
 -- `stock::few` meets its contract. The invariant: no mailbox below m holds too many. Assumes nothing.
-use Prim.Native.Nat.{ℕ, ◌+◌, ◌≤◌, ◌<◌, ◌-◌}
+use Prim.Native.Nat.{ℕ, ◌+◌, ◌<◌}
 use Rattle.habits.specs.Tables.{capacity_in}
 use Rattle.plain.specs.Sizes.{buffers, mailboxes}
 use Rattle.rings.specs.Moves.{holds_at_least}
@@ -11,7 +11,4 @@ use mathlib.Core.Path.{◌≡◌}
 
 abbrev pub invariant-loop-m : goal.invariant-loop-m
 invariant-loop-m l =
-    (l.m ≤ mailboxes) × ((i : ℕ) → i < l.m → (prev : List ℕ) → holds_at_least buffers mailboxes (tables l.next prev) i (capacity_in l.capacity i + 1) ≡ false)
-
-abbrev pub decreases-loop-m : goal.decreases-loop-m
-decreases-loop-m l = mailboxes - l.m
+    (i : ℕ) → i < l.m → (prev : List ℕ) → holds_at_least buffers mailboxes (tables l.next prev) i (capacity_in l.capacity i + 1) ≡ false

@@ -6,4 +6,4 @@ use borrow.Author.Rules.{rules}
 pub returns : goal.returns
 returns c =
     let a = c.args in
-    queued_from a.next.now a.prev.now (search rules) c.standing.result.ok c.standing.result.at c.standing.ensures
+    queued_from a.next.now a.prev.now (search rules) c.standing.result c.standing.ensures

@@ -1,8 +1,12 @@
 -- `verdicts::no_size` meets its contract. Assumes nothing.
-use Rattle.plain.specs.Mailboxes.{most_queued, no_size}
+use Rattle.plain.specs.Mailboxes.{no_size, most_queued}
+use Rattle.std.proofs.Common.{rules}
 use Rattle.verdicts.proofs.no_size.Goals as goal
-use mathlib.Core.Path.{refl}
 
-pub returns : goal.returns
+pub returns-then-capacity-gt-MOST_QUEUED : goal.returns-then-capacity-gt-MOST_QUEUED
 unfolding no_size most_queued
-returns c = rw (c.either-2.ensures, c.either.ensures) refl
+returns-then-capacity-gt-MOST_QUEUED c = search rules
+
+pub returns-else-capacity-gt-MOST_QUEUED : goal.returns-else-capacity-gt-MOST_QUEUED
+unfolding no_size most_queued
+returns-else-capacity-gt-MOST_QUEUED c = search rules

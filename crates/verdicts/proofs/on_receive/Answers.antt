@@ -1,8 +1,12 @@
 -- `verdicts::on_receive` meets its contract. Assumes nothing.
+use Rattle.verdicts.proofs.Chained.{ends, goes_on}
 use Rattle.verdicts.proofs.on_receive.Goals as goal
-use Rattle.verdicts.specs.Chain.{found}
-use mathlib.Core.Path.{refl}
+
+pub returns-in_err-on_idle : goal.returns-in_err-on_idle
+returns-in_err-on_idle c = ends _ _ _ _ c.from_residual.ensures.1 c.in_err-on_idle.ensures
+
+pub returns-in_err-refuse_if : goal.returns-in_err-refuse_if
+returns-in_err-refuse_if c = ends _ _ _ _ c.from_residual-in_err-refuse_if.ensures.1 (goes_on _ _ _ _ c.in_ok-on_idle.ensures c.in_err-refuse_if.ensures)
 
 pub returns : goal.returns
-unfolding found
-returns c = rw (c.or-2.ensures, c.or.ensures, c.on_idle.ensures) refl
+returns c = goes_on _ _ _ _ (goes_on _ _ _ _ c.in_ok-on_idle.ensures c.in_ok-refuse_if.ensures) c.refuse_if-2.ensures

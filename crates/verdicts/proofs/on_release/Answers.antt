@@ -1,8 +1,6 @@
 -- `verdicts::on_release` meets its contract. Assumes nothing.
+use Rattle.verdicts.proofs.Chained.{both}
 use Rattle.verdicts.proofs.on_release.Goals as goal
-use Rattle.verdicts.specs.Chain.{found}
-use mathlib.Core.Path.{refl}
 
 pub returns : goal.returns
-unfolding found
-returns c = rw (c.or.ensures, c.on_idle.ensures) refl
+returns c = both _ _ _ _ c.and.ensures c.on_idle.ensures c.refuse_if.ensures

@@ -1,8 +1,9 @@
 -- `verdicts::on_stop` meets its contract. Assumes nothing.
+use Rattle.std.proofs.Common.{rules, not, ◌||◌, ◌≡◌, eqb}
+use Rattle.verdicts.proofs.Chained.{both}
 use Rattle.verdicts.proofs.on_stop.Goals as goal
-use Rattle.verdicts.specs.Chain.{found}
-use mathlib.Core.Path.{refl}
 
 pub returns : goal.returns
-unfolding found
-returns c = rw (c.or.ensures, c.either-2.ensures, c.either.ensures, c.on_tick.ensures) refl
+returns c =
+    let either : c.if-not-named.refuse_if ≡ (eqb c.args.p 0 || (not c.args.named || c.args.unused)) = search rules in
+    both _ _ _ _ c.and.ensures c.on_tick.ensures (rw either at c.refuse_if.ensures)

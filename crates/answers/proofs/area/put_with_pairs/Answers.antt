@@ -9,9 +9,6 @@ use mathlib.Core.List.{◌++◌}
 use mathlib.Core.Path.{refl}
 use native.Mathlib.Omega.{arith}
 
-pub returns-then-out-n : goal.returns-then-out-n
-returns-then-out-n c = let s = c.args in written_none _ s.out.now (simp (length-append, pairs-length) (omega arith))
-
 pub returns-then-out-n-2 : goal.returns-then-out-n-2
 returns-then-out-n-2 c = let s = c.args in written_none _ s.out.now (simp (length-append, pairs-length) (omega arith))
 

@@ -1,6 +1,5 @@
 -- `chains::singles::separate` meets its contract. The invariant: the answer says whether every buffer below b links to itself. Assumes nothing.
-use Prim.Native.Nat.{ℕ, ◌≤◌, ◌<◌, ◌-◌}
-use Rattle.bits.specs.Word.{width}
+use Prim.Native.Nat.{ℕ, ◌<◌}
 use Rattle.chains.proofs.singles.separate.Given as goal
 use Rattle.chains.specs.Led.{after}
 use Rattle.chains.specs.Links.{num}
@@ -9,7 +8,4 @@ use mathlib.Core.List.{map}
 use mathlib.Core.Path.{◌≡◌}
 
 abbrev pub invariant-loop-b : goal.invariant-loop-b
-invariant-loop-b l = (l.b ≤ width) × Decides l.all ((i : ℕ) → i < l.b → after (map num l.chain) i ≡ i)
-
-abbrev pub decreases-loop-b : goal.decreases-loop-b
-decreases-loop-b l = width - l.b
+invariant-loop-b l = Decides l.all ((i : ℕ) → i < l.b → after (map num l.chain) i ≡ i)

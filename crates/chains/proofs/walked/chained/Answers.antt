@@ -1,20 +1,11 @@
 -- `chains::walked::chained` meets its contract. Assumes nothing.
-use Rattle.chains.proofs.Reading.{left_over, decided}
+use Rattle.chains.proofs.Reading.{decided, undecided}
 use Rattle.chains.proofs.walked.chained.Goals as goal
 use borrow.Author.Rules.{rules}
-use borrow.Author.Tests.{not-true, not-false}
+use mathlib.Core.Path.{sym, ◌∙◌}
 
-pub returns-then-not-w : goal.returns-then-not-w
-returns-then-not-w c =
-    let w = c.walks-w in
-    rw (not-true w.result.ok c.if-not-w.true, c.bytes_of-links.ensures) at w.ensures
+pub returns-then-eq : goal.returns-then-eq
+returns-then-eq c = decided _ _ _ c.walks.result (search rules) c.walks.ensures (sym c.eq.ensures ∙ c.if-eq.true) c.told-need c.all_rest.result c.all_rest.ensures
 
-pub returns-then-w-ne0 : goal.returns-then-w-ne0
-returns-then-w-ne0 c =
-    let w = c.walks-w in
-    left_over _ _ _ w.result.todo (search (rules, w.type_inv)) c.if-w-ne0.true (rw (not-false w.result.ok c.if-not-w.false, c.bytes_of-links.ensures) at w.ensures)
-
-pub returns : goal.returns
-returns c =
-    let w = c.walks-w in
-    decided _ _ _ w.result.todo c.all_rest.result c.if-w-ne0.false (rw (not-false w.result.ok c.if-not-w.false, c.bytes_of-links.ensures) at w.ensures) (search rules) (rw c.bytes_of-links.ensures at c.all_rest.ensures)
+pub returns-else-eq : goal.returns-else-eq
+returns-else-eq c = rw c.if-eq.false (undecided _ _ _ c.walks.result (search rules) c.walks.ensures (sym c.eq.ensures ∙ c.if-eq.false))

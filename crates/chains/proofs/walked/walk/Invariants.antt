@@ -1,13 +1,13 @@
--- `chains::walked::walk` meets its contract. The invariant: what the rest of the walk gives from here, the whole gives from b. Assumes nothing.
-use Prim.Native.Nat.{ℕ, suc, ◌^◌, ◌<◌}
-use Rattle.bits.specs.Word.{bits, width}
+-- `chains::walked::walk` meets its contract. The invariant: so many buffers are reached, from b on. Assumes nothing.
+use Prim.Native.Nat.{◌<◌}
+use Rattle.bits.specs.Word.{bits}
+use Rattle.chains.proofs.Reading.{Reached}
 use Rattle.chains.proofs.walked.walk.Given as goal
-use Rattle.chains.specs.Chained.{Walked}
-use mathlib.Core.Bool.{Bool}
+use Rattle.chains.specs.Links.{num}
+use mathlib.Core.List.{map}
 
-abbrev pub invariant-loop-x : goal.invariant-loop-x
-invariant-loop-x here =
-    (here.s < 2 ^ width) × ((ok : Bool) (l : ℕ → Bool) → Walked here.links (suc here.left) here.x.0 (bits here.s) ok l → Walked here.links here.n here.initial.x.0 (bits here.todo) ok l)
-
-abbrev pub decreases-loop-x : goal.decreases-loop-x
-decreases-loop-x l = l.left
+abbrev pub invariant-loop : goal.invariant-loop
+invariant-loop l = record {
+  byte : l.x.0 < 256;
+  reached : Reached (map num l.chain) l.initial.x.0 (bits l.todo) l.counter l.x.0 l.last.0 l.left;
+}

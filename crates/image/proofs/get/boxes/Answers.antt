@@ -3,4 +3,4 @@ use Rattle.image.proofs.Areas.{gots}
 use Rattle.image.proofs.get.boxes.Goals as goal
 
 pub returns : goal.returns
-returns c = gots c.box_links-next.ensures c.box_links-prev.ensures
+returns c = gots c.units.ensures c.units-2.ensures

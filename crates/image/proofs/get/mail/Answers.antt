@@ -3,4 +3,4 @@ use Rattle.image.proofs.Areas.{gots}
 use Rattle.image.proofs.get.mail.Goals as goal
 
 pub returns : goal.returns
-returns c = gots (gots (gots (gots (gots c.boxes-boxes.ensures c.bids-hand.ensures) c.word.ensures) c.halfwords.ensures) c.word-2.ensures) c.bids-chain.ensures
+returns c = gots (gots (gots (gots (gots c.boxes.ensures c.units.ensures) c.word.ensures) c.halfwords.ensures) c.word-2.ensures) c.units-2.ensures

@@ -3,4 +3,4 @@ use Rattle.image.proofs.Areas.{gots}
 use Rattle.image.proofs.get.settings.Goals as goal
 
 pub returns : goal.returns
-returns c = gots (gots c.byte-slice.ensures c.bytes.ensures) c.bytes-2.ensures
+returns c = gots (gots c.byte.ensures c.units.ensures) c.units-2.ensures

@@ -3,4 +3,4 @@ use Rattle.image.proofs.Areas.{puts}
 use Rattle.image.proofs.put.boxes.Goals as goal
 
 pub returns : goal.returns
-returns c = puts c.box_links.ensures c.box_links-2.ensures
+returns c = puts c.units.ensures c.units-2.ensures

@@ -12,12 +12,12 @@ use mathlib.Core.List.{[]}
 use mathlib.Core.Path.{◌≡◌}
 use native.Mathlib.Omega.{arith}
 
-pub returns-then-v-ne0 : goal.returns-then-v-ne0
-returns-then-v-ne0 c = refused_plainly (Plain.class _) c.if-v-ne0.true (judged_class c.facts-f.ensures c.args.class c.on_class-v.ensures) c.refuse.ensures
+pub returns-in-Err : goal.returns-in-Err
+returns-in-Err c = refused_plainly (Plain.class _) c.in-Err.r (judged_class c.facts-f.ensures c.args.class c.in-Err.ensures) c.refuse.ensures
 
 pub returns : goal.returns
 unfolding Plain.perform Plain.refusals
-returns c = accepted_plainly (Plain.class _) c.if-v-ne0.false (judged_class c.facts-f.ensures c.args.class c.on_class-v.ensures) (λ s H S x.
+returns c = accepted_plainly (Plain.class _) c.in_default.field-0 (judged_class c.facts-f.ensures c.args.class c.in_default.ensures) (λ s H S x.
     let low = leb-false _ _ x.1.0 in
     let e : c.args.class % 256 ≡ c.args.class = omega (arith, low) in
     gives 0 0 [] _ c.answer.ensures (rw c.with_procs.ensures

@@ -16,12 +16,12 @@ use mathlib.Core.List.{[]}
 use mathlib.Core.Path.{◌≡◌, ap, ◌∙◌}
 use native.Mathlib.Omega.{arith}
 
-pub returns-then-v-ne0 : goal.returns-then-v-ne0
-returns-then-v-ne0 c = refused_plainly (Plain.create _) c.if-v-ne0.true (judged_create c.facts-f.ensures c.args.class c.lowest_unused-p.ensures c.on_create-v.ensures) c.refuse.ensures
+pub returns-in-Err : goal.returns-in-Err
+returns-in-Err c = refused_plainly (Plain.create _) c.in-Err.r (judged_create c.facts-f.ensures c.args.class c.lowest_unused-p.ensures c.in-Err.ensures) c.refuse.ensures
 
 pub returns : goal.returns
 unfolding Plain.perform Plain.refusals
-returns c = accepted_plainly (Plain.create _) c.if-v-ne0.false (judged_create c.facts-f.ensures c.args.class c.lowest_unused-p.ensures c.on_create-v.ensures) (λ s H S x.
+returns c = accepted_plainly (Plain.create _) c.in_default.field-0 (judged_create c.facts-f.ensures c.args.class c.lowest_unused-p.ensures c.in_default.ensures) (λ s H S x.
     let p : ℕ = free_process s.procs in
     let fr = next_process s.procs x.1.0 in
     let e : c.lowest_unused-p.result % 32 ≡ p = omega (arith, fr.1, c.lowest_unused-p.ensures ∙ lowest-unused H.procs) in

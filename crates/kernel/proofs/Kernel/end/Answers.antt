@@ -11,11 +11,11 @@ use mathlib.Core.Logic.{◌≢◌}
 use mathlib.Core.Path.{◌∙◌}
 use native.Mathlib.Omega.{arith}
 
-pub returns-then-v-ne0 : goal.returns-then-v-ne0
-returns-then-v-ne0 c = refused_plainly Plain.end c.if-v-ne0.true (judged_end c.facts-f.ensures c.on_idle-v.ensures) c.refuse.ensures
+pub returns-in-Err : goal.returns-in-Err
+returns-in-Err c = refused_plainly Plain.end c.in-Err.r (judged_end c.facts-f.ensures c.in-Err.ensures) c.refuse.ensures
 
 pub returns : goal.returns
 unfolding Plain.perform Plain.refusals
-returns c = accepted_plainly Plain.end c.if-v-ne0.false (judged_end c.facts-f.ensures c.on_idle-v.ensures) (λ s H S x.
+returns c = accepted_plainly Plain.end c.in_default.field-0 (judged_end c.facts-f.ensures c.in_default.ensures) (λ s H S x.
     let z : s.procs.running ≢ 0 = eqb-false _ _ x.0 in
     gives 0 0 [] _ c.answer.ensures (stopped_holds H S s.procs.running (c.facts-f.ensures.runner ∙ runner_is _ s H) (omega arith) (runner_range s.settings.slice s.procs S.seated) c.stopped.ensures))

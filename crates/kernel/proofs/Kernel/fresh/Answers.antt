@@ -9,4 +9,4 @@ use mathlib.Core.Path.{◌≡◌, refl}
 pub returns : goal.returns
 returns c =
     let wide : (length c.args.settings.capacity ≡ mailboxes) × (length c.args.settings.mode ≡ mailboxes) = (search rules, search rules) in
-    fresh_holds (record { procs = c.fresh-procs.ensures; mail = c.fresh-mail.ensures; count = refl; births = refl; settings = refl }) wide.0 wide.1
+    fresh_holds (record { procs = c.fresh.ensures; mail = c.fresh-2.ensures; count = refl; births = refl; settings = refl }) wide.0 wide.1

@@ -8,10 +8,10 @@ use Rattle.plain.specs.State.{Settings, start}
 use mathlib.Core.Path.{◌≡◌, subst}
 use native.Mathlib.Omega.{arith}
 
-pub returns-then-v-ne0 : goal.returns-then-v-ne0
-returns-then-v-ne0 c = refused-start c.args.slice c.if-v-ne0.true c.on_fresh_start-v.ensures (rw (← c.usual.ensures) c.fresh.ensures) c.refuse.ensures
+pub returns-in-Err : goal.returns-in-Err
+returns-in-Err c = refused-start c.args.slice c.in-Err.r c.in-Err.ensures (rw (← c.usual.ensures) c.fresh.ensures) c.refuse.ensures
 
 pub returns : goal.returns
 unfolding longest_slice
-returns c = accepted_start c.args.slice c.if-v-ne0.false c.on_fresh_start-v.ensures
-    (λ z. subst (λ (n : ℕ). Holds c.fresh-2.result (start (slice_of n))) (let e : c.args.slice % 256 ≡ c.args.slice = omega (arith, z.not_over) in e) (subst (λ (x : Settings). Holds c.fresh-2.result (start x)) c.of_slice-settings.ensures c.fresh-2.ensures)) c.answer.ensures
+returns c = accepted_start c.args.slice c.in_default.field-0 c.in_default.ensures
+    (λ z. subst (λ (n : ℕ). Holds c.fresh-2.result (start (slice_of n))) (let e : c.args.slice % 256 ≡ c.args.slice = omega (arith, z.not_over) in e) (subst (λ (x : Settings). Holds c.fresh-2.result (start x)) c.of_slice.ensures c.fresh-2.ensures)) c.answer.ensures

@@ -11,16 +11,16 @@ use mir.Val.{Fits}
 use native.Mathlib.Omega.{arith}
 
 pub returns-then-not-may_be_set : goal.returns-then-not-may_be_set
-returns-then-not-may_be_set c = not_set c.args.self c.may_be_set.result c.if-not-may_be_set.true-raw c.may_be_set.ensures
+returns-then-not-may_be_set c = not_set c.args.self c.if-not-may_be_set.ensures
 
 pub returns-then-not-may_be_kept : goal.returns-then-not-may_be_kept
-returns-then-not-may_be_kept c = not_kept c.args.self c.may_be_kept.result c.if-not-may_be_kept.true-raw c.may_be_kept.ensures
+returns-then-not-may_be_kept c = not_kept c.args.self c.if-not-may_be_kept.ensures
 
-pub returns-then-not-found : goal.returns-then-not-found
-returns-then-not-found c = not_seated c.args.self c.seated-found.result.ok c.seated-found.result.at c.if-not-found.true c.seated-found.ensures
+pub returns-in_default : goal.returns-in_default
+returns-in_default c = not_seated c.args.self c.in_default.ensures
 
 pub returns-then-not-stocked : goal.returns-then-not-stocked
-returns-then-not-stocked c = not_stocked c.args.self c.stocked.result c.if-not-stocked.true-raw c.stocked.ensures
+returns-then-not-stocked c = not_stocked c.args.self c.if-not-stocked.ensures
 
 pub returns : goal.returns
 returns c =
@@ -29,4 +29,4 @@ returns c =
     let settled : (length c.args.self.settings.capacity ≡ mailboxes) × (length c.args.self.settings.mode ≡ mailboxes) = let settings = c.well_formed.0.1.1.1.1.1.1.0 in
     (search (settings, rules), search (settings, rules)) in
     let low : (i : ℕ) → Fits w16 (get_or c.args.self.count i 0) = λ i. search rules in
-    decided c.args.self settled c.may_be_set.result c.if-not-may_be_set.false-raw c.may_be_set.ensures c.may_be_kept.result c.if-not-may_be_kept.false-raw c.may_be_kept.ensures wide long (λ i. omega (arith, (low i).fits)) c.seated-found.result.ok c.seated-found.result.at c.if-not-found.false c.seated-found.ensures c.stocked.result c.if-not-stocked.false-raw c.stocked.ensures c.all_fit.result c.all_fit.ensures
+    decided c.args.self settled c.if-not-may_be_set.ensures c.if-not-may_be_kept.ensures wide long (λ i. omega (arith, (low i).fits)) c.in-Some.at c.in-Some.ensures c.if-not-stocked.ensures c.all_fit.result c.all_fit.ensures

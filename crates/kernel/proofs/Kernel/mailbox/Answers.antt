@@ -13,12 +13,12 @@ use mathlib.Core.List.{[]}
 use mathlib.Core.Path.{◌≡◌}
 use native.Mathlib.Omega.{arith}
 
-pub returns-then-v-ne0 : goal.returns-then-v-ne0
-returns-then-v-ne0 c = refused_plainly (Plain.mailbox _ _ _) c.if-v-ne0.true (judged_mailbox c.facts-f.ensures c.args.m c.args.capacity c.args.mode c.is_busy.ensures c.on_mailbox-v.ensures) c.refuse.ensures
+pub returns-in-Err : goal.returns-in-Err
+returns-in-Err c = refused_plainly (Plain.mailbox _ _ _) c.in-Err.r (judged_mailbox c.facts-f.ensures c.args.m c.args.capacity c.args.mode c.is_busy.ensures c.in-Err.ensures) c.refuse.ensures
 
 pub returns : goal.returns
 unfolding Plain.perform Plain.refusals most_queued
-returns c = accepted_plainly (Plain.mailbox _ _ _) c.if-v-ne0.false (judged_mailbox c.facts-f.ensures c.args.m c.args.capacity c.args.mode c.is_busy.ensures c.on_mailbox-v.ensures) (λ s H S x.
+returns c = accepted_plainly (Plain.mailbox _ _ _) c.in_default.field-0 (judged_mailbox c.facts-f.ensures c.args.m c.args.capacity c.args.mode c.is_busy.ensures c.in_default.ensures) (λ s H S x.
     let z = size_passed c.args.capacity c.args.mode x.1.0 in
     let few : c.args.capacity % 256 ≡ c.args.capacity = omega (arith, z) in
     let either : c.args.mode % 256 ≡ c.args.mode = omega (arith, z) in

@@ -17,12 +17,12 @@ use mathlib.Core.List.{[]}
 use mathlib.Core.Path.{◌≡◌, sym, ap, ◌∙◌}
 use native.Mathlib.Omega.{arith}
 
-pub returns-then-v-ne0 : goal.returns-then-v-ne0
-returns-then-v-ne0 c = refused_plainly (Plain.receive _) c.if-v-ne0.true (judged_receive c.facts-f.ensures c.args.m (c.has_message.ensures ∙ ap (has_message _) c.facts-f.ensures.runner) c.on_receive-v.ensures) c.refuse.ensures
+pub returns-in-Err : goal.returns-in-Err
+returns-in-Err c = refused_plainly (Plain.receive _) c.in-Err.r (judged_receive c.facts-f.ensures c.args.m (c.has_message.ensures ∙ ap (has_message _) c.facts-f.ensures.runner) c.in-Err.ensures) c.refuse.ensures
 
 pub returns-then-is_empty_box : goal.returns-then-is_empty_box
 unfolding Plain.perform Plain.refusals
-returns-then-is_empty_box c = accepted_plainly (Plain.receive _) c.if-v-ne0.false (judged_receive c.facts-f.ensures c.args.m (c.has_message.ensures ∙ ap (has_message _) c.facts-f.ensures.runner) c.on_receive-v.ensures) (λ s H S x.
+returns-then-is_empty_box c = accepted_plainly (Plain.receive _) c.in_default.field-0 (judged_receive c.facts-f.ensures c.args.m (c.has_message.ensures ∙ ap (has_message _) c.facts-f.ensures.runner) c.in_default.ensures) (λ s H S x.
     let a = c.args in
     let low : a.m < mailboxes = leb-false _ _ x.1.0 in
     let e : a.m % 16 ≡ a.m = omega (arith, low) in
@@ -32,7 +32,7 @@ returns-then-is_empty_box c = accepted_plainly (Plain.receive _) c.if-v-ne0.fals
 
 pub returns : goal.returns
 unfolding Plain.perform Plain.refusals
-returns c = accepted_plainly (Plain.receive _) c.if-v-ne0.false (judged_receive c.facts-f.ensures c.args.m (c.has_message.ensures ∙ ap (has_message _) c.facts-f.ensures.runner) c.on_receive-v.ensures) (λ s H S x.
+returns c = accepted_plainly (Plain.receive _) c.in_default.field-0 (judged_receive c.facts-f.ensures c.args.m (c.has_message.ensures ∙ ap (has_message _) c.facts-f.ensures.runner) c.in_default.ensures) (λ s H S x.
     let a = c.args in
     let f = first_of (s.box a.m) (not-false _ (sym (empty_box H.mail a.m) ∙ (sym c.is_empty_box.ensures ∙ c.if-is_empty_box.false))) in
     rw f.2 (gives 0 (length f.0.bytes) [] _ (c.answer-2.ensures ∙ ap (answered _ 0) (c.first_length-n.ensures ∙ first-length H.mail a.m f.0 f.1 f.2))

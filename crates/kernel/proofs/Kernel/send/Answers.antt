@@ -13,17 +13,25 @@ use Rattle.plain.specs.Sizes.{longest, mailboxes, store_size}
 use Rattle.promise.specs.Promise.{store_after}
 use borrow.Author.Tests.{leb-false, ltb-false, eqb-true, not-false}
 use lib.ListN.{length}
+use Rattle.kernel.specs.Full.{refuses_at, overflows_at}
+use Rattle.std.proofs.Common.{rules}
 use mathlib.Core.List.{[]}
 use mathlib.Core.Path.{◌≡◌, refl, ap, ◌∙◌}
 use native.Mathlib.Omega.{arith}
 
-pub returns-then-v-ne0 : goal.returns-then-v-ne0
-returns-then-v-ne0 c = refused_lent (Plain.send c.args.m c.args.message.now) c.args.store.now c.args.store.now c.args.store.now (λ o s. store_after c.args.store.now o (buffers_for c.args.m c.args.message.now s) c.args.message.now) (λ o s e. rw e refl) c.if-v-ne0.true (judged_send c.facts-f.ensures c.args.store.now c.args.message.now c.args.m c.relieve-next.result refl refl c.fullness-full.ensures.0 (c.relieve-next.ensures ∙ ap (relieved (numbers c.args.self.mail) c.args.m) c.fullness-full.ensures.1) c.lacks.ensures c.on_send-v.ensures) c.refuse.ensures refl
+pub returns-in-Err : goal.returns-in-Err
+returns-in-Err c =
+    let drops : c.eq.result ≡ overflows_at c.args.self c.args.m = search rules in
+    let refuses : c.eq-refuses.result ≡ refuses_at c.args.self c.args.m = search rules in
+    refused_lent (Plain.send c.args.m c.args.message.now) c.args.store.now c.args.store.now c.args.store.now (λ o s. store_after c.args.store.now o (buffers_for c.args.m c.args.message.now s) c.args.message.now) (λ o s e. rw e refl) c.in-Err.r (judged_send c.facts-f.ensures c.args.store.now c.args.message.now c.args.m c.relieve-next.result refl refl refuses (c.relieve-next.ensures ∙ ap (relieved (numbers c.args.self.mail) c.args.m) drops) c.lacks.ensures c.in-Err.ensures) c.refuse.ensures refl
 
 pub returns : goal.returns
 unfolding Plain.perform Plain.refusals numbers
-returns c = let d = c.relieve-next.ensures ∙ ap (relieved (numbers c.args.self.mail) c.args.m) c.fullness-full.ensures.1 in
-    accepted_lent (Plain.send c.args.m c.args.message.now) c.args.store.now c.args.store.now _ (λ o s. store_after c.args.store.now o (buffers_for c.args.m c.args.message.now s) c.args.message.now) (λ o s e. rw e refl) c.if-v-ne0.false (judged_send c.facts-f.ensures c.args.store.now c.args.message.now c.args.m c.relieve-next.result refl refl c.fullness-full.ensures.0 d c.lacks.ensures c.on_send-v.ensures) (λ s H S p.
+returns c =
+    let drops : c.eq.result ≡ overflows_at c.args.self c.args.m = search rules in
+    let refuses : c.eq-refuses.result ≡ refuses_at c.args.self c.args.m = search rules in
+    let d = c.relieve-next.ensures ∙ ap (relieved (numbers c.args.self.mail) c.args.m) drops in
+    accepted_lent (Plain.send c.args.m c.args.message.now) c.args.store.now c.args.store.now _ (λ o s. store_after c.args.store.now o (buffers_for c.args.m c.args.message.now s) c.args.message.now) (λ o s e. rw e refl) c.in_default.field-0 (judged_send c.facts-f.ensures c.args.store.now c.args.message.now c.args.m c.relieve-next.result refl refl refuses d c.lacks.ensures c.in_default.ensures) (λ s H S p.
     let hm = leb-false mailboxes c.args.m p.1.0 in
     let same : c.args.m % 16 ≡ c.args.m = omega (arith, hm) in
     let twice : c.args.m % 16 % 16 ≡ c.args.m = omega (arith, hm) in

@@ -10,12 +10,12 @@ use mathlib.Core.List.{[]}
 use mathlib.Core.Path.{◌≡◌}
 use native.Mathlib.Omega.{arith}
 
-pub returns-then-v-ne0 : goal.returns-then-v-ne0
-returns-then-v-ne0 c = refused_plainly (Plain.signal _) c.if-v-ne0.true (judged_signal c.facts-f.ensures c.args.i c.count_of.ensures c.on_signal-v.ensures) c.refuse.ensures
+pub returns-in-Err : goal.returns-in-Err
+returns-in-Err c = refused_plainly (Plain.signal _) c.in-Err.r (judged_signal c.facts-f.ensures c.args.i c.count_of.ensures c.in-Err.ensures) c.refuse.ensures
 
 pub returns : goal.returns
 unfolding Plain.perform Plain.refusals
-returns c = accepted_plainly (Plain.signal _) c.if-v-ne0.false (judged_signal c.facts-f.ensures c.args.i c.count_of.ensures c.on_signal-v.ensures) (λ s H S x.
+returns c = accepted_plainly (Plain.signal _) c.in_default.field-0 (judged_signal c.facts-f.ensures c.args.i c.count_of.ensures c.in_default.ensures) (λ s H S x.
     let low = leb-false _ _ x.0 in
     let e : c.args.i % 16 ≡ c.args.i = omega (arith, low) in
     let twice : c.args.i % 16 % 16 ≡ c.args.i = omega (arith, low) in

@@ -11,12 +11,12 @@ use mathlib.Core.List.{[]}
 use mathlib.Core.Path.{◌≡◌, sym, ◌∙◌}
 use native.Mathlib.Omega.{arith}
 
-pub returns-then-v-ne0 : goal.returns-then-v-ne0
-returns-then-v-ne0 c = refused_plainly (Plain.wait _) c.if-v-ne0.true (judged_wait c.facts-f.ensures c.args.i c.on_wait-v.ensures) c.refuse.ensures
+pub returns-in-Err : goal.returns-in-Err
+returns-in-Err c = refused_plainly (Plain.wait _) c.in-Err.r (judged_wait c.facts-f.ensures c.args.i c.in-Err.ensures) c.refuse.ensures
 
 pub returns-then-count_of-eq0 : goal.returns-then-count_of-eq0
 unfolding Plain.perform Plain.refusals
-returns-then-count_of-eq0 c = accepted_plainly (Plain.wait _) c.if-v-ne0.false (judged_wait c.facts-f.ensures c.args.i c.on_wait-v.ensures) (λ s H S x.
+returns-then-count_of-eq0 c = accepted_plainly (Plain.wait _) c.in_default.field-0 (judged_wait c.facts-f.ensures c.args.i c.in_default.ensures) (λ s H S x.
     let a = c.args in
     let low : a.i < semaphores = leb-false _ _ x.1.0 in
     let e : a.i % 16 ≡ a.i = omega (arith, low) in
@@ -26,7 +26,7 @@ returns-then-count_of-eq0 c = accepted_plainly (Plain.wait _) c.if-v-ne0.false (
 
 pub returns : goal.returns
 unfolding Plain.perform Plain.refusals
-returns c = accepted_plainly (Plain.wait _) c.if-v-ne0.false (judged_wait c.facts-f.ensures c.args.i c.on_wait-v.ensures) (λ s H S x.
+returns c = accepted_plainly (Plain.wait _) c.in_default.field-0 (judged_wait c.facts-f.ensures c.args.i c.in_default.ensures) (λ s H S x.
     let a = c.args in
     let low : a.i < semaphores = leb-false _ _ x.1.0 in
     let e : a.i % 16 ≡ a.i = omega (arith, low) in

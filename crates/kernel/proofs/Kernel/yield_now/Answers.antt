@@ -9,11 +9,11 @@ use Rattle.procs.proofs.Kept.{yielded_kept}
 use borrow.Author.Tests.{eqb-false}
 use mathlib.Core.List.{[]}
 
-pub returns-then-v-ne0 : goal.returns-then-v-ne0
-returns-then-v-ne0 c = refused_plainly Plain.yield c.if-v-ne0.true (judged_yield c.facts-f.ensures c.on_idle-v.ensures) c.refuse.ensures
+pub returns-in-Err : goal.returns-in-Err
+returns-in-Err c = refused_plainly Plain.yield c.in-Err.r (judged_yield c.facts-f.ensures c.in-Err.ensures) c.refuse.ensures
 
 pub returns : goal.returns
 unfolding Plain.perform Plain.refusals
-returns c = accepted_plainly Plain.yield c.if-v-ne0.false (judged_yield c.facts-f.ensures c.on_idle-v.ensures) (λ s H S x.
+returns c = accepted_plainly Plain.yield c.in_default.field-0 (judged_yield c.facts-f.ensures c.in_default.ensures) (λ s H S x.
     gives 0 0 [] _ c.answer.ensures (rw c.with_procs.ensures
     (moved_holds H (rw (c.yield_now.ensures, c.facts-f.ensures.slice, slice_is H) (yielded_kept H.procs (slice_some s S) S.seated S.highest (eqb-false _ _ x.0))))))

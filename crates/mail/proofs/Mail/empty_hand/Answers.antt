@@ -2,7 +2,8 @@
 use Rattle.mail.proofs.Mail.empty_hand.Goals as goal
 use Rattle.mail.specs.Carries.{numbers}
 use Rattle.mail.specs.Moves.{emptied}
+use Rattle.std.proofs.lemmas.List.{map-set}
 
 pub returns : goal.returns
 unfolding numbers emptied
-returns c = rw (c.with_hand-hands.ensures, c.without_bit.ensures)
+returns c = rw (c.set_entry.ensures, map-set, c.without_bit.ensures)

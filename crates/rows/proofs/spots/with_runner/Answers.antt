@@ -20,6 +20,3 @@ returns-then-i-lt-PROCESSES c p h =
     (λ (e : p ≡ a.running.0). rw (eq-eqb p a.running.0 e, e, get_or-set_same a.at a.running.0 c.mark.result 0 (omega arith), m) (decoded 1 a.class 0 (omega arith) (search rules) (omega arith)))
     (λ (d : p ≢ a.running.0). rw (ne_eqb p a.running.0 d, get_or-set_other a.at a.running.0 p c.mark.result 0 d))
     (same? p a.running.0)
-
-pub returns-else-i-lt-PROCESSES : goal.returns-else-i-lt-PROCESSES
-returns-else-i-lt-PROCESSES c p h = let a = c.args in rw (ne_eqb p a.running.0 (λ e. omega (arith, e, h, c.if-i-lt-PROCESSES.false)))

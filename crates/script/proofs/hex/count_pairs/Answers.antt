@@ -1,26 +1,28 @@
--- `script::hex::count_pairs` meets its contract. The loop's invariant, `Counted`: the pairs before `at` spell bytes.
+-- `script::hex::count_pairs` meets its contract: a turn of the loop reads two digits, or refuses the last one alone.
 -- Assumes nothing.
 use Rattle.script.proofs.HexLaws.{counted_none, counted-bad, counted-more, counted-all}
 use Rattle.script.proofs.NumberLaws.{number_none, number_some}
 use Rattle.script.proofs.hex.count_pairs.Goals as goal
-use Rattle.script.specs.Promises.{number_of, pair_at}
-use lib.ListN.{drop}
-use mathlib.Core.Path.{sym, ap}
+use borrow.Author.Rules.{rules}
+use lib.ListN.{length-append}
 
-pub loop-at-init : goal.loop-at-init
-loop-at-init c = counted_none c.args.w.now
+pub loop-digits-init : goal.loop-digits-init
+loop-digits-init c = (search rules, tt, search rules, search (rules, counted_none c.args.w.now))
 
-pub returns-in_default : goal.returns-in_default
-returns-in_default c =
-    let w = c.args.w.now in
-    let l = c.loop-at in
-    sym (ap number_of (counted-bad w l.at l.invariant c.loop-at-test.true (number_none (pair_at (drop l.at w)) c.pair_at.ensures c.in_default.is)))
+pub loop-digits-preserved : goal.loop-digits-preserved
+loop-digits-preserved c =
+    let l = c.loop-digits in
+    let steps = c.in-Some.ensures.steps in
+    let found = number_some _ c.pair.ensures c.in_ok-pair.was in
+    let more = counted-more c.args.w.now _ _ _ _ l.invariant.3 steps.1.0 (rw l.invariant.2 at steps.1.1) steps.1.2 _ found in
+    (search rules, tt, search rules, rw length-append more)
 
-pub loop-at-preserved : goal.loop-at-preserved
-loop-at-preserved c =
-    let w = c.args.w.now in
-    let l = c.loop-at in
-    counted-more w l.at l.invariant _ (number_some (pair_at (drop l.at w)) c.pair_at.ensures c.in-Is.is)
+pub returns-in_err-pair : goal.returns-in_err-pair
+returns-in_err-pair c =
+    let l = c.loop-digits in
+    let steps = c.in-Some.ensures.steps in
+    let none = number_none _ c.pair.ensures c.in_err-pair.was in
+    rw (counted-bad c.args.w.now _ _ _ _ l.invariant.3 steps.1.0 (rw l.invariant.2 at steps.1.1) steps.1.2 none) (search rules)
 
 pub returns : goal.returns
-returns c = let l = c.loop-at in sym (ap number_of (counted-all c.args.w.now l.at l.invariant c.loop-at-test.false))
+returns c = rw (counted-all c.args.w.now _ _ c.loop-digits.invariant.3 c.in-None.ensures.steps.1.0)

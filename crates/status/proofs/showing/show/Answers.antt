@@ -6,14 +6,14 @@ use Rattle.status.proofs.showing.show.Goals as goal
 use Rattle.telling.proofs.Laws.{gives_as}
 use native.Mathlib.Omega.{arith}
 
-pub returns-then-a-ne0 : goal.returns-then-a-ne0
-returns-then-a-ne0 c =
+pub returns-in_default : goal.returns-in_default
+returns-in_default c =
     let s = c.args in
     let l = c.sheet_of-sheet in
-    gives_as (omega arith) (is_not_sound s.state.now l.result c.if-a-ne0.true l.ensures) c.not_sound.ensures
+    gives_as (omega arith) (is_not_sound s.state.now l.result c.in_default.is l.ensures) c.not_sound.ensures
 
 pub returns : goal.returns
 returns c =
     let s = c.args in
     let page = c.put_page-length in
-    record { text = _; is = is_known s.state.now c.sheet_of-sheet.result (sized _ _ c.read.type_inv) c.read.ensures c.if-a-ne0.false c.sheet_of-sheet.ensures; short = page.ensures.short; written = page.ensures.written }
+    record { text = _; is = is_known s.state.now c.sheet_of-sheet.result (sized _ _ c.read.type_inv) c.read.ensures _ c.in-Some.is c.sheet_of-sheet.ensures; short = page.ensures.short; written = page.ensures.written }

@@ -12,18 +12,18 @@ returns-then-a-eq14 c = let s = c.args in
     let w = c.why-w in
     gives_as (omega arith) (is_not_sound s.state.now s.name w.result c.if-a-eq14.true w.ensures) c.not_sound.ensures
 
-pub returns-then-a-ne0 : goal.returns-then-a-ne0
-returns-then-a-ne0 c = let s = c.args in
+pub returns-in_default : goal.returns-in_default
+returns-in_default c = let s = c.args in
     let w = c.why-w in
-    gives_as (omega arith) (is_nobody s.state.now s.name w.result c.if-a-eq14.false c.if-a-ne0.true w.ensures) c.refuse.ensures
+    gives_as (omega arith) (is_nobody s.state.now s.name w.result c.if-a-eq14.false c.in_default.is w.ensures) c.refuse.ensures
 
 pub overflow_cast-p : goal.overflow_cast-p
 overflow_cast-p c = let s = c.args in
     let w = c.why-w in
-    let low : bare s.name < processes = is_process s.state.now s.name w.result c.if-a-ne0.false w.ensures in
+    let low : bare s.name < processes = is_process s.state.now s.name w.result _ c.in-Some.is w.ensures in
     omega (arith, c.bare-p.ensures)
 
 pub returns : goal.returns
 returns c = let s = c.args in
     let w = c.why-w in
-    record { text = _; is = is_known s.state.now s.name w.result _ c.bare-p.ensures c.if-a-ne0.false w.ensures; short = c.put_sentence-length.ensures.short; written = c.put_sentence-length.ensures.written }
+    record { text = _; is = is_known s.state.now s.name w.result _ c.bare-p.ensures _ c.in-Some.is w.ensures; short = c.put_sentence-length.ensures.short; written = c.put_sentence-length.ensures.written }

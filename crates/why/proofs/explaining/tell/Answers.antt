@@ -10,4 +10,4 @@ pub returns-in_default : goal.returns-in_default
 returns-in_default c = gives_as (omega arith) (λ good text t. rw (number_none (number c.args.word.now) c.read_number.ensures c.in_default.is) t) c.refuse.ensures
 
 pub returns : goal.returns
-returns c = gives_as (omega arith) (λ good text t. rw (number_some (number c.args.word.now) c.read_number.ensures c.in-Is.is) t) c.about.ensures
+returns c = gives_as (omega arith) (λ good text t. rw (number_some (number c.args.word.now) c.read_number.ensures c.in-Some.is) t) c.about.ensures

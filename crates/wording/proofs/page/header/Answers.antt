@@ -7,4 +7,4 @@ use native.Mathlib.Omega.{arith}
 
 pub returns : goal.returns
 unfolding header cell
-returns c = rw (c.say.ensures, c.nothing.ensures) (alone header (omega arith))
+returns c = rw (c.say.ensures, c.new.ensures) (alone header (omega arith))

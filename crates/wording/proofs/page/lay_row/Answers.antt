@@ -6,7 +6,6 @@ use Rattle.wording.proofs.AddsLaws.{adds_none, adds_as}
 use Rattle.wording.proofs.PageLaws.{line-used, line-unused}
 use Rattle.wording.proofs.page.lay_row.Goals as goal
 use Rattle.wording.specs.Page.{line_of}
-use Rattle.wording.specs.Promises.{so_far}
 use mathlib.Core.Path.{◌≡◌, sym, ◌∙◌}
 use native.Mathlib.Omega.{arith}
 
@@ -14,7 +13,7 @@ pub returns-then-is_used : goal.returns-then-is_used
 returns-then-is_used c =
     let s = c.args in
     let used = sym c.is_used.ensures ∙ c.if-is_used.true in
-    let line : so_far c.row_line.result ≡ line_of (name (count_in s.births)) s.process s.row = c.row_line.ensures ∙ sym (line-used (name (count_in s.births)) s.process s.row used) in
+    let line : c.row_line.result ≡ line_of (name (count_in s.births)) s.process s.row = c.row_line.ensures ∙ sym (line-used (name (count_in s.births)) s.process s.row used) in
     adds_as line c.lay.ensures
 
 pub returns : goal.returns

@@ -1,13 +1,9 @@
--- `wording::page::unused_in` meets its contract. The loop's invariant: those unused among the first `i` are counted.
+-- `wording::page::unused_in` meets its contract. The loop's invariant: those unused among the first ones are counted.
 -- Assumes nothing.
-use Prim.Native.Nat.{◌-◌, ◌≤◌}
-use Rattle.plain.specs.Sizes.{processes}
+use Prim.Native.Nat.{◌≤◌}
 use Rattle.wording.proofs.page.unused_in.Given as goal
 use Rattle.wording.specs.Page.{unused_in, row_at}
 use mathlib.Core.Path.{◌≡◌}
 
-abbrev pub invariant-loop-i : goal.invariant-loop-i
-invariant-loop-i l = (l.i ≤ processes) × (l.count ≤ l.i) × (l.count ≡ unused_in l.i (row_at l.rows))
-
-abbrev pub decreases-loop-i : goal.decreases-loop-i
-decreases-loop-i l = processes - l.i
+abbrev pub invariant-loop-row : goal.invariant-loop-row
+invariant-loop-row l = (l.count ≤ l.row-index) × (l.count ≡ unused_in l.row-index (row_at l.fn.rows))

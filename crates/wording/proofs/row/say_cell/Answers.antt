@@ -1,29 +1,34 @@
 -- `wording::row::say_cell` meets its contract.
 -- Assumes nothing.
-use Rattle.wording.proofs.PhraseLaws.{more-more}
+use Prim.Native.Nat.{ℕ, ◌-◌}
+use Rattle.answers.specs.Ascii.{space}
+use Rattle.wording.proofs.PageLaws.{more-space}
 use Rattle.wording.proofs.row.say_cell.Goals as goal
 use Rattle.wording.specs.Page.{cell}
-use Rattle.wording.specs.Promises.{room}
-use borrow.Author.Rules.{rules}
+use Rattle.wording.specs.Promises.{more}
 use lib.ListN.{length}
-use lib.Seq.{length-take-le}
-use mathlib.Core.Path.{◌≡◌, sym}
+use mathlib.Core.List.{List, append-nil, ◌∷◌, []}
+use mathlib.Core.Path.{◌≡◌, ap, ◌∙◌}
 use native.Mathlib.Omega.{arith}
 
-pub slice_bounds-bytes-end : goal.slice_bounds-bytes-end
-slice_bounds-bytes-end c =
-    let size : length c.args.text.bytes ≡ room = search rules in
-    omega arith
+pub loop-at-init : goal.loop-at-init
+loop-at-init c =
+    let text = c.args.text in
+    let whole = c.text-text.ensures.whole in
+    let same : length c.text-text.result.now ≡ length text = ap (λ (l : List ℕ). length l) whole in
+    let none : length text - length text ≡ 0 = omega arith in
+    (omega arith, rw (whole, none, append-nil) (c.say-line.ensures ∙ ap (more c.args.t) whole))
 
-pub slice_bounds-say-end : goal.slice_bounds-say-end
-slice_bounds-say-end c =
-    let size : length c.args.text.bytes ≡ room = search rules in
-    sym (length-take-le _ _ (omega arith))
+pub loop-at-preserved : goal.loop-at-preserved
+loop-at-preserved c =
+    let l = c.loop-at in
+    let same : length c.text-text.result.now ≡ length c.args.text = ap (λ (x : List ℕ). length x) c.text-text.ensures.whole in
+    (omega arith, c.say-line-in-loop-at.ensures ∙ ap (λ (s : List ℕ). more s (space ∷ [])) l.invariant.1 ∙ more-space c.args.t c.args.text l._at (omega arith))
 
 pub returns : goal.returns
 unfolding cell
 returns c =
+    let l = c.loop-at in
     let text = c.args.text in
-    let u = c.used-end in
-    let size : length text.bytes ≡ room = search rules in
-    rw (c.say_spaces.ensures, c.say.ensures, more-more, ← u.ensures.1, length-take-le u.result text.bytes (omega arith))
+    let all : l._at - length text ≡ c.args.width - length text = omega arith in
+    rw (← all) l.invariant.1

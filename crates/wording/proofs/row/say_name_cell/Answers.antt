@@ -6,7 +6,7 @@ use Rattle.answers.specs.Answer.{decimal}
 use Rattle.wording.proofs.PageLaws.{alone}
 use Rattle.wording.proofs.row.say_name_cell.Goals as goal
 use Rattle.wording.specs.Page.{cell}
-use Rattle.wording.specs.Promises.{so_far, more}
+use Rattle.wording.specs.Promises.{more}
 use borrow.Author.Rules.{rules}
 use mathlib.Core.List.{List}
 use mathlib.Core.Path.{ap}
@@ -17,4 +17,4 @@ returns c =
     let s = c.args in
     let n = c.name_of-n in
     let whole = alone (decimal n.result) (omega (arith, decimal_short n.result (search rules))) in
-    rw (c.say_cell.ensures, ← n.ensures, c.say_decimal.ensures, c.nothing.ensures) (ap (λ (l : List ℕ). more (so_far s.t) (cell s.width l)) whole)
+    rw (c.say_cell.ensures, ← n.ensures, c.say_decimal.ensures, c.new.ensures) (ap (λ (l : List ℕ). more s.t (cell s.width l)) whole)

@@ -8,4 +8,4 @@ use native.Mathlib.Omega.{arith}
 
 pub returns : goal.returns
 returns c =
-    rw (c.say_cell.ensures, c.say_number.ensures, c.nothing.ensures, alone (decimal c.args.n) (omega (arith, byte_short c.args.n c.ranges.n.fits)))
+    rw (c.say_cell.ensures, c.say_number.ensures, c.new.ensures, alone (decimal c.args.n) (omega (arith, byte_short c.args.n c.ranges.n.fits)))

@@ -9,4 +9,4 @@ use native.Mathlib.Omega.{arith}
 pub returns : goal.returns
 returns c =
     let sized : Sized c.args.row = record { which = search rules; position = search rules; class = search rules; ticks = search rules; length = search rules } in
-    rw (c.say_cell.ensures, c.say_stands.ensures, c.nothing.ensures, alone (stands c.args.row) (omega (arith, stands_short c.args.row sized)))
+    rw (c.say_cell.ensures, c.say_stands.ensures, c.new.ensures, alone (stands c.args.row) (omega (arith, stands_short c.args.row sized)))

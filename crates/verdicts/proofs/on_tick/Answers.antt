@@ -1,8 +1,0 @@
--- `verdicts::on_tick` meets its contract. Assumes nothing.
-use Rattle.verdicts.proofs.on_tick.Goals as goal
-use Rattle.verdicts.specs.Chain.{found}
-use mathlib.Core.Path.{refl}
-
-pub returns : goal.returns
-unfolding found
-returns c = rw c.or.ensures refl
