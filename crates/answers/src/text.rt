@@ -1,97 +1,46 @@
-// A short text, made from its end. Assumes that there is room in front, as each `requires` says.
-ghost use Rattle.std.specs.Prelude.{ℕ, List, ◌≡◌, [], ◌∷◌, ◌++◌, ◌+◌, ◌%◌, ◌≤◌, ◌<◌, length, drop};
+// The numbers of a line, one behind the other. Assumes that there is room for them, as each `requires` says.
+ghost use Rattle.std.specs.Prelude.{◌≡◌, ◌∷◌, ◌++◌, ◌+◌, ◌≤◌, length};
 ghost use Rattle.answers.specs.Ascii.{space};
-ghost use Rattle.answers.specs.Answer.{answer, decimal, digit, line};
-ghost use Rattle.answers.specs.Promises.{text_room, before_pairs};
+ghost use Rattle.answers.specs.Answer.{decimal, line};
+ghost use Rattle.answers.specs.Promises.{text_room};
+ghost use Rattle.verdicts.specs.Answer.{said};
 
 use crate::TEXT_ROOM;
-use std::marker::Model;
+use arrayvec::ArrayString;
+use itoa::Buffer;
+use verdicts::Answer;
 
-// The bytes from `at` on. A buffer with a place beside it: there is no heap.
-#[derive(Drop)]
-pub(crate) struct Text {
-    bytes: [u8; TEXT_ROOM],
-    at: usize,
-}
+// Room for a line, in the value itself: there is no heap.
+pub(crate) type Text = ArrayString<TEXT_ROOM>;
 
-impl Model for Text {
-    ghost Value = { List ℕ };
-
-    ghost view = { λ t. drop t.at t.bytes };
-
-    ghost invariant = { λ t. t.at ≤ text_room };
-}
-
-fn last_digit(n: u32) -> u8
-    ensures { result ≡ digit (n % 10) }
+// Piece by piece, as `write!` promises nothing about when it succeeds.
+#[tactic(auto, using(crate::proofs::TextLaws::decimal_printed))]
+fn push_decimal(text: &mut Text, n: u32)
+    requires { length text.old.bytes + 10 ≤ text_room }
+    ensures text { text.new.bytes ≡ text.old.bytes ++ decimal n }
+    ensures within { length text.new.bytes ≤ length text.old.bytes + 10 }
 {
-    b'0' + (n % 10) as u8
+    let mut digits = Buffer::new();
+    text.push_str(digits.format(n));
 }
 
-impl Text {
-    pub(crate) fn new() -> Text
-        ensures { result ≡ [] }
-    {
-        Text {
-            bytes: [0; TEXT_ROOM],
-            at: TEXT_ROOM,
-        }
-    }
+fn push_spaced(text: &mut Text, n: u32)
+    requires { length text.old.bytes + 11 ≤ text_room }
+    ensures text { text.new.bytes ≡ text.old.bytes ++ space ∷ decimal n }
+    ensures within { length text.new.bytes ≤ length text.old.bytes + 11 }
+{
+    text.push_str(" ");
+    push_decimal(text, n);
+}
 
-    pub(crate) fn as_bytes(&self) -> &[u8]
-        ensures { result.now ≡ self.now }
-    {
-        &self.bytes[self.at..]
-    }
-
-    fn front(&mut self, b: u8)
-        requires { length self.old < text_room }
-        ensures { self.new ≡ b ∷ self.old }
-    {
-        self.at -= 1;
-        self.bytes[self.at] = b;
-    }
-
-    // What stands between the numbers and the pairs in the line of a read: a space, and a dash where there are none.
-    pub(crate) fn before_pairs(none: bool) -> Text
-        ensures { result ≡ before_pairs none }
-    {
-        let mut text = Text::new();
-        if none {
-            text.front(b'-');
-        }
-        text.front(b' ');
-        text
-    }
-
-    pub(crate) fn decimal(&mut self, n: u32)
-        requires { length self.old + 10 ≤ text_room }
-        ensures text { self.new ≡ decimal n ++ self.old }
-        ensures within { length self.new ≤ length self.old + 10 }
-    {
-        self.front(last_digit(n));
-        let mut v = n / 10;
-        while 0 < v {
-            self.front(last_digit(v));
-            v /= 10;
-        }
-    }
-
-    fn spaced(&mut self, n: u32)
-        requires { length self.old + 11 ≤ text_room }
-        ensures text { self.new ≡ space ∷ (decimal n ++ self.old) }
-        ensures within { length self.new ≤ length self.old + 11 }
-    {
-        self.decimal(n);
-        self.front(b' ');
-    }
-
-    pub(crate) fn numbers(&mut self, code: u32, number: u32, running: u32)
-        requires { length self.old + 32 ≤ text_room }
-        ensures { self.new ≡ line (answer code number running) ++ self.old }
-    {
-        self.spaced(running);
-        self.spaced(number);
-        self.decimal(code);
-    }
+// It leaves room for what stands before the pairs.
+pub(crate) fn line(a: Answer) -> Text
+    ensures text { result.bytes ≡ line (said a) }
+    ensures within { length result.bytes ≤ 32 }
+{
+    let mut text = Text::new();
+    push_decimal(&mut text, a.code);
+    push_spaced(&mut text, a.number);
+    push_spaced(&mut text, a.running);
+    text
 }

@@ -13,7 +13,8 @@ use lib.Dec.{eqb}
 use lib.Pow.{pow_mono, shl_exact, shr-shr}
 use Rattle.std.specs.Prelude.{if◌then◌else◌}
 use Rattle.lists.specs.Lists.{put, lowest}
-use Rattle.lists.proofs.Laws.{either, same?, le?, put_same, put_other, lowest-same}
+use Rattle.std.proofs.lemmas.Bool.{cases_Bool, cases_eq}
+use Rattle.lists.proofs.Laws.{le?, put_same, put_other, lowest-same}
 use Rattle.bits.specs.Word.{bit, word, bits, highest}
 
 -- ---- a word and its bits
@@ -95,7 +96,7 @@ highest_is zero d c t h e f = absurd (omega arith)
 highest_is (suc n) d c t h e f = ⊎_elim
     (λ (s : n ≡ c). rw (ap t s ∙ e) s)
     (λ (s : n ≢ c). rw (f n (omega arith) (omega arith)) (highest_is n d c t (omega arith) e (λ i a b. f i a (omega arith))))
-    (same? n c)
+    (cases_eq n c)
 
 pub highest_none : (n d : ℕ) (t : ℕ → Bool) → ((i : ℕ) → i < n → t i ≡ false) → highest n d t ≡ d
 unfolding highest
@@ -106,7 +107,7 @@ highest_none (suc n) d t h = rw (h n (omega arith)) (highest_none n d t (λ i b.
 pub highest-on : (n d : ℕ) (t : ℕ → Bool) → highest n d t ≢ d → t (highest n d t) ≡ true
 unfolding highest
 highest-on zero d t r = absurd (r refl)
-highest-on (suc n) d t r = ⊎_elim (λ e. rw e e) (λ e. rw e (highest-on n d t (rw e at r))) (either (t n))
+highest-on (suc n) d t r = ⊎_elim (λ e. rw e e) (λ e. rw e (highest-on n d t (rw e at r))) (cases_Bool (t n))
 
 pub highest_off : (n d : ℕ) (t : ℕ → Bool) (i : ℕ) → highest n d t < i → i < n → t i ≡ false
 unfolding highest
@@ -114,14 +115,14 @@ highest_off zero d t i a h = absurd (omega arith)
 highest_off (suc n) d t i a h = ⊎_elim
     (λ e. absurd (omega (arith, rw e at a)))
     (λ e. ⊎_elim (λ (g : n ≤ i). let x : n ≡ i = omega arith in rw (← x) e) (λ (g : i < n). highest_off n d t i (rw e at a) g) (le? n i))
-    (either (t n))
+    (cases_Bool (t n))
 
 pub highest-same : (n d : ℕ) (t u : ℕ → Bool) → ((i : ℕ) → i < n → t i ≡ u i) → highest n d t ≡ highest n d u
 unfolding highest
 highest-same zero d t u h = refl
 highest-same (suc n) d t u h = rw (h n (omega arith), highest-same n d t u (λ i b. h i (omega arith)))
 
--- ---- a word that is known by its test: what with_bit and without_bit (put), has_bit, lowest_bit and highest_bit answer of it
+-- ---- a word that is known by its test: what put_bit (put), has_bit, lowest_bit and highest_bit answer of it
 
 module _ (n : ℕ) (t : ℕ → Bool) {w : ℕ} (is : w ≡ word n t) where
   pub word_has : (i : ℕ) → i < n → bits w i ≡ t i

@@ -18,7 +18,7 @@ use Rattle.plain_laws.specs.History.{Passed, First, is_refusal}
 use Rattle.promise.specs.Promise.{not_sound}
 use Rattle.kernel.specs.Holds.{Holds}
 use Rattle.kernel.specs.Promise.{said, Starts}
-use Rattle.kernel.specs.declared.Answer.{Answer}
+use Rattle.verdicts.specs.declared.Answer.{Answer}
 use Rattle.kernel.specs.declared.Done.{Done}
 use Rattle.image.specs.Image.{size}
 use Rattle.board.specs.Area.{Lies, begin_refusals, Begins, HandedBack}

@@ -6,7 +6,8 @@ use mathlib.Core.Logic.{◌≢◌, ⊎_elim}
 use mathlib.Core.List.{List, [], ◌∷◌, ◌++◌}
 use native.Mathlib.Omega.{arith}
 use Rattle.lists.specs.Lists.{put, one, occurs, total, someone}
-use Rattle.lists.proofs.Laws.{same?, le?, put_same, put_other, one_same, one_other, occurs-append, total_zero, total_change}
+use Rattle.std.proofs.lemmas.Bool.{cases_eq}
+use Rattle.lists.proofs.Laws.{le?, put_same, put_other, one_same, one_other, occurs-append, total_zero, total_change}
 use Rattle.bits.specs.Word.{bit, width}
 use Rattle.bits.proofs.Words.{bit_le}
 use Rattle.chains.specs.Chained.{spread}
@@ -37,7 +38,7 @@ along-total n (x ∷ l) g h k z =
     let i : x < n = k x (omega (arith, one_same x)) in
     let o : occurs x l ≡ 0 = omega (arith, h x, one_same x) in
     let r = along-total n l (put g x 0) (λ b. omega (arith, h b)) (λ b e. k b (omega arith))
-    (λ b j e. ⊎_elim (λ (d : b ≡ x). subst (λ (y : ℕ). put g x 0 y ≡ 0) (sym d) (put_same g x 0)) (λ (d : b ≢ x). put_other g x 0 b d ∙ z b j (omega (arith, one_other x b (λ q. d (sym q))))) (same? b x)) in
+    (λ b j e. ⊎_elim (λ (d : b ≡ x). subst (λ (y : ℕ). put g x 0 y ≡ 0) (sym d) (put_same g x 0)) (λ (d : b ≢ x). put_other g x 0 b d ∙ z b j (omega (arith, one_other x b (λ q. d (sym q))))) (cases_eq b x)) in
     omega (arith, r, along_other l g x o, total_change n g (put g x 0) x i (λ j d. put_other g x 0 j d), put_same g x 0)
 
 -- all lists below m, one behind the other

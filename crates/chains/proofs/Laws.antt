@@ -8,7 +8,8 @@ use native.Mathlib.Omega.{arith}
 use lib.ListN.{length, get_or, set, length-set}
 use lib.Seq.{get_or-set_same, get_or-set_other}
 use Rattle.lists.specs.Lists.{one, occurs}
-use Rattle.lists.proofs.Laws.{same?, one_same, one_other}
+use Rattle.std.proofs.lemmas.Bool.{cases_eq}
+use Rattle.lists.proofs.Laws.{one_same, one_other}
 use Rattle.bits.specs.Word.{width}
 use Rattle.rings.specs.Moves.{fresh}
 use Rattle.rings.proofs.Looks.{fresh_rings}
@@ -44,8 +45,8 @@ module _ (t u : List ℕ) where
   -- one list is led to by the same links
   pub one_led : {b c : ℕ} {l : List ℕ} → Led t b l → Led u c l → (p : ℕ) → 1 ≤ occurs p l → after t p ≡ after u p
   one_led none none p o = absurd (omega arith)
-  one_led (last {b = b} e) (last g) p o = ⊎_elim (λ (d : b ≡ p). rw (← d) (e ∙ sym g)) (λ (d : b ≢ p). absurd (omega (arith, one_other b p d))) (same? b p)
-  one_led (on {b = b} d) (on g) p o = ⊎_elim (λ (e : b ≡ p). rw (← e) (led_head d ∙ sym (led_head g))) (λ (e : b ≢ p). one_led d g p (omega (arith, one_other b p e))) (same? b p)
+  one_led (last {b = b} e) (last g) p o = ⊎_elim (λ (d : b ≡ p). rw (← d) (e ∙ sym g)) (λ (d : b ≢ p). absurd (omega (arith, one_other b p d))) (cases_eq b p)
+  one_led (on {b = b} d) (on g) p o = ⊎_elim (λ (e : b ≡ p). rw (← e) (led_head d ∙ sym (led_head g))) (λ (e : b ≢ p). one_led d g p (omega (arith, one_other b p e))) (cases_eq b p)
 
 -- ---- linked up
 
@@ -97,7 +98,7 @@ alone_still : (t l : List ℕ) (p : ℕ) → p < length t → after t p ≡ p �
 unfolding alone
 alone_still t [] p h e = e
 alone_still t (x ∷ l) p h e = alone_still (set t x x) l p (omega (arith, length-set t x x))
-    (⊎_elim (λ (d : p ≡ x). rw (← d) (get_or-set_same t p p 0 h)) (λ (d : p ≢ x). get_or-set_other t x p x 0 d ∙ e) (same? p x))
+    (⊎_elim (λ (d : p ≡ x). rw (← d) (get_or-set_same t p p 0 h)) (λ (d : p ≢ x). get_or-set_other t x p x 0 d ∙ e) (cases_eq p x))
 
 pub alone-own : (t l : List ℕ) (p : ℕ) → 1 ≤ occurs p l → p < length t → after (alone t l) p ≡ p
 unfolding alone
@@ -105,7 +106,7 @@ alone-own t [] p o h = absurd (omega arith)
 alone-own t (x ∷ l) p o h = ⊎_elim
     (λ (d : x ≡ p). alone_still (set t x x) l p (omega (arith, length-set t x x)) (rw d (get_or-set_same t p p 0 h)))
     (λ (d : x ≢ p). alone-own (set t x x) l p (omega (arith, one_other x p d)) (omega (arith, length-set t x x)))
-    (same? x p)
+    (cases_eq x p)
 
 -- ---- every buffer linked to itself
 

@@ -1,5 +1,4 @@
 pub mod Laws
-pub mod Arrays
 pub mod Words
 pub mod Bits
 pub mod Lows

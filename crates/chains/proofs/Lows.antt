@@ -9,8 +9,10 @@ use native.Mathlib.Omega.{arith}
 use lib.ListN.{get_or, take}
 use borrow.Author.Tests.{eq-eqb, ne_eqb}
 use Rattle.std.specs.Prelude.{if◌then◌else◌}
+use Rattle.std.proofs.Math.Seq.{take-nil}
 use Rattle.lists.specs.Lists.{put, lowest, those}
-use Rattle.lists.proofs.Laws.{either, same?, put_other, lowest-passes}
+use Rattle.std.proofs.lemmas.Bool.{cases_Bool, cases_eq}
+use Rattle.lists.proofs.Laws.{put_other, lowest-passes}
 use Rattle.lists.proofs.Those.{those-same}
 use Rattle.bits.specs.Word.{word, bits, width}
 use Rattle.bits.proofs.Words.{word_has}
@@ -23,7 +25,7 @@ word-lows n f {w} is = ap (take n) (those-same 0 width (bits w) f (λ p a h. wor
 -- ---- the lowest of those that pass a test, and the others
 
 pub lowest-le : (i n : ℕ) (t : ℕ → Bool) → lowest i n t ≤ i + n
-lowest-le i n t = ⊎_elim (λ (e : lowest i n t ≡ i + n). omega arith) (λ d. omega (arith, (lowest-passes i n t d).1)) (same? (lowest i n t) (i + n))
+lowest-le i n t = ⊎_elim (λ (e : lowest i n t ≡ i + n). omega arith) (λ d. omega (arith, (lowest-passes i n t d).1)) (cases_eq (lowest i n t) (i + n))
 
 pub those_none : (i n : ℕ) (t : ℕ → Bool) → i + n ≤ lowest i n t → those i n t ≡ []
 unfolding those lowest
@@ -44,17 +46,13 @@ those-lowest i (suc n) t h = ⊎_elim
     let m : ℕ = lowest (suc i) n t in
     let d : i ≢ m = λ q. omega (arith, (lowest-passes (suc i) n t (λ r. omega arith)).0) in
     rw (e, ne_eqb i m d) (those-lowest (suc i) n t k))
-    (either (t i))
+    (cases_Bool (t i))
 
 -- ---- drawn one after another
 
 module _ (s left : ℕ) where
   pub lows_out : width ≤ lowest 0 width (bits s) → lows left (bits s) ≡ []
-  lows_out h = ap (take left) (those_none 0 width (bits s) h) ∙ nothing left
-    where
-      nothing : (n : ℕ) → ◌≡◌ {A = List ℕ} (take n []) []
-      nothing zero = refl
-      nothing (suc n) = refl
+  lows_out h = ap (take left) (those_none 0 width (bits s) h) ∙ take-nil left
 
   pub lows-first : 0 < left → lowest 0 width (bits s) < width → (d : ℕ) → get_or (lows left (bits s)) 0 d ≡ lowest 0 width (bits s)
   lows-first z h d = ap (λ (l : List ℕ). get_or (take left l) 0 d) (those-lowest 0 width (bits s) h) ∙ head left z _ _

@@ -12,7 +12,8 @@ use borrow.Author.Tests.{eqb-true, eqb-false}
 use Rattle.std.specs.Prelude.{Option, Some, None, IfSome}
 use Rattle.std.specs.Option.{option_eq}
 use Rattle.lists.specs.Lists.{put, one, occurs, total}
-use Rattle.lists.proofs.Laws.{same?, le?, put_same, put_other, one_same, one_other, total-same}
+use Rattle.std.proofs.lemmas.Bool.{cases_eq}
+use Rattle.lists.proofs.Laws.{le?, put_same, put_other, one_same, one_other, total-same}
 use Rattle.rings.specs.Decides.{Decides}
 use Rattle.rings.proofs.Decisions.{decides_as}
 use Rattle.bits.specs.Word.{bit, word, bits, width}
@@ -30,7 +31,7 @@ less : (s : ℕ → Bool) (x : ℕ) → s x ≡ true → (rest : ℕ → Bool) �
 less s x e rest d p = ⊎_elim
     (λ (q : x ≡ p). rw (d p, ← q, put_same s x false, e, one_same x))
     (λ (q : x ≢ p). rw (d p, put_other s x false p (λ z. q (sym z)), one_other x p q) (omega arith))
-    (same? x p)
+    (cases_eq x p)
 
 module _ (t : List ℕ) where
   -- where n links lead from b
@@ -129,7 +130,7 @@ module _ (t : List ℕ) where
 total_upto : (n b : ℕ) (f : ℕ → ℕ) → b < n → f b + total b f ≤ total n f
 unfolding total
 total_upto zero b f h = absurd (omega arith)
-total_upto (suc n) b f h = ⊎_elim (λ (e : b ≡ n). rw e (omega arith)) (λ (d : b ≢ n). omega (arith, total_upto n b f (omega arith))) (same? b n)
+total_upto (suc n) b f h = ⊎_elim (λ (e : b ≡ n). rw e (omega arith)) (λ (d : b ≢ n). omega (arith, total_upto n b f (omega arith))) (cases_eq b n)
 
 total-more : (n : ℕ) (f : ℕ → ℕ) → total (n + 1) f ≡ f n + total n f
 unfolding total
@@ -154,7 +155,7 @@ module _ (t need : List ℕ) (free : ℕ → Bool) where
     pub passed_on : (l : ℕ) → Walked t (get_or need b 0) b s (Some l) → Passed t need free (b + 1) (bits l)
     unfolding total
     passed_on l w = record {
-      ends = λ j h. ⊎_elim (λ (e : j ≡ b). rw e w.0) (λ (d : j ≢ b). P.ends j (omega arith)) (same? j b);
+      ends = λ j h. ⊎_elim (λ (e : j ≡ b). rw e w.0) (λ (d : j ≢ b). P.ends j (omega arith)) (cases_eq j b);
       sums = λ p. omega (arith, w.1 p, P.sums p, total-more b (λ j. occurs p (at t need j)));
     }
 

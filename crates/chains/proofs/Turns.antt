@@ -10,7 +10,8 @@ use lib.ListN.{get_or, set}
 use lib.Dec.{eqb}
 use borrow.Author.Tests.{ne_eqb}
 use Rattle.lists.specs.Lists.{put, someone, lowest}
-use Rattle.lists.proofs.Laws.{either, same?, le?, lowest_none, lowest_most}
+use Rattle.std.proofs.lemmas.Bool.{cases_Bool, cases_eq}
+use Rattle.lists.proofs.Laws.{le?, lowest_none, lowest_most}
 use Rattle.bits.specs.Word.{bit, word, bits, width}
 use Rattle.chains.specs.Led.{after}
 use Rattle.chains.specs.Links.{run, lows, link_up, alone, removed, added}
@@ -24,10 +25,10 @@ pub any_is : (s left : ℕ) → s < 2 ^ width → left ≢ 0 → not (eqb s 0) �
 any_is s left h z = ⊎_elim
     (λ (e : s ≡ 0). rw e (sym (ap someone (lows_out 0 left (omega (arith, lowest_none 0 width (bits 0) (λ j a b. zero_off j)))))))
     (λ (d : s ≢ 0). rw (ne_eqb s 0 d) (sym (ap someone (lows-on s left (omega arith) (lowest 0 width (bits s)) _ refl (low d) refl))))
-    (same? s 0)
+    (cases_eq s 0)
   where
     low : s ≢ 0 → lowest 0 width (bits s) < width
-    low d = ⊎_elim (λ (k : width ≤ lowest 0 width (bits s)). absurd (d (word_zero width s h (λ p. off k p (either (bits s p)))))) (λ k. k) (le? width (lowest 0 width (bits s)))
+    low d = ⊎_elim (λ (k : width ≤ lowest 0 width (bits s)). absurd (d (word_zero width s h (λ p. off k p (cases_Bool (bits s p)))))) (λ k. k) (le? width (lowest 0 width (bits s)))
       where
         off : width ≤ lowest 0 width (bits s) → (p : ℕ) → (bits s p ≡ true) ⊎ (bits s p ≡ false) → bit (bits s p) ≡ 0
         off k p = ⊎_elim (λ (e : bits s p ≡ true). absurd (omega (arith, on_below width s p h e, lowest_most 0 width p (bits s) (omega arith) (on_below width s p h e) e))) (λ (e : bits s p ≡ false). ap bit e)

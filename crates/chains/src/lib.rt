@@ -15,24 +15,24 @@ ghost use Rattle.chains.specs.Led.{after};
 ghost use Rattle.chains.specs.Links.{num, run, lows, need_at, own, link_up, alone, removed, added};
 ghost use Rattle.chains.specs.Chained.{Chained};
 
-use bits::{lowest_bit, with_bit, without_bit};
+use bits::{lowest_bit, put_bit};
 use sizes::{BUFFER_SIZE, BUFFERS, Bid, Bids};
 
-// Each buffer linked to itself.
+/// Each buffer linked to itself.
 pub fn fresh() -> [Bid; BUFFERS]
     ensures { map num result ≡ own }
 {
-    std::array::from_fn(|b| Bid(b as u8))
+    rings::links::own()
 }
 
-// The buffer after b, or 0 past the last buffer.
+/// The buffer after b, or 0 past the last buffer: as every move, any number is taken.
 pub fn next(chain: &[Bid; BUFFERS], b: Bid) -> Bid
     ensures { result.0 ≡ after (map num chain.now) b.0 }
 {
     tables::entry(chain, b.0 as usize, Bid(0))
 }
 
-// The lowest that is on, or 32 where none is.
+/// The lowest that is on, or 32 where none is: no Option, since every step takes a number past the last buffer as it is and changes nothing.
 pub fn lowest_of(s: u32) -> Bid
     ensures { result.0 ≡ lowest 0 width (bits s) }
 {
@@ -53,8 +53,8 @@ fn behind(s: u32, left: usize, b: Bid) -> Bid
     if any(s, left) { lowest_of(s) } else { b }
 }
 
-// The n lowest free buffers, or all where fewer are free, are linked up in order and no longer free.
-// `left` counts down in a `while`, since the loop ends by the free ones too: a `for` with a `break` asks in two places.
+/// The n lowest free buffers, or all where fewer are free, are linked up in order and no longer free.
+/// `left` counts down in a `while`, since the loop ends by the free ones too: a `for` with a `break` asks in two places.
 pub fn take(chain: &mut [Bid; BUFFERS], free: &mut Bids, n: usize)
     ensures links { map num chain.new ≡ link_up (map num chain.old) (lows n (bits free.old.0)) }
     ensures others { free.new.0 ≡ word width (removed (bits free.old.0) (lows n (bits free.old.0))) }
@@ -63,37 +63,38 @@ pub fn take(chain: &mut [Bid; BUFFERS], free: &mut Bids, n: usize)
     let mut left = n;
     while any(s, left) {
         let b = lowest_of(s);
-        s = without_bit(s, b.0 as u32);
+        s = put_bit(s, b.0 as u32, false);
         left -= 1;
         chain[b.0 as usize] = behind(s, left, b);
     }
     free.0 = s;
 }
 
-// The n buffers from b on, by the links as they were, are each linked to itself and free.
+/// The n buffers from b on, by the links as they were, are each linked to itself and free.
 pub fn give_back(chain: &mut [Bid; BUFFERS], b: Bid, n: usize, free: &mut Bids)
     ensures links { map num chain.new ≡ alone (map num chain.old) (run (map num chain.old) n b.0) }
     ensures others { free.new.0 ≡ word width (added (bits free.old.0) (run (map num chain.old) n b.0)) }
 {
+    // The links as they were: each is read after the one before it has been set.
     let were = *chain;
     let mut s = free.0;
     let mut x = b;
     for _ in 0..n {
         tables::set_entry(chain, x.0 as usize, x);
-        s = with_bit(s, x.0 as u32);
+        s = put_bit(s, x.0 as u32, true);
         x = next(&were, x);
     }
     free.0 = s;
 }
 
-// Whether n or more are free.
+/// Whether n or more are free.
 pub fn enough(free: Bids, n: usize) -> bool
     ensures { result ≡ leb n (length (those 0 width (bits free.0))) }
 {
     n <= free.0.count_ones() as usize
 }
 
-// How many buffers a message of this length needs: one at least.
+/// How many buffers a message of this length needs: one at least.
 #[tactic(auto, unfolding(plain::specs::Pages::needed, plain::specs::Sizes::buffer_size))]
 pub fn buffers_for(length: usize) -> usize
     ensures { result ≡ needed length }
@@ -115,7 +116,7 @@ fn need_of(place: u8, length: u16) -> u8
     buffers_for(length as usize) as u8
 }
 
-// The same for all.
+/// The same for all.
 pub fn needs(at: &[u8; BUFFERS], length: &[u16; BUFFERS]) -> [u8; BUFFERS]
     ensures { (b : ℕ) → b < width → get_or result b 0 ≡ need_at (get_or at.now b 0) (get_or length.now b 0) }
 {
@@ -126,8 +127,8 @@ pub fn needs(at: &[u8; BUFFERS], length: &[u16; BUFFERS]) -> [u8; BUFFERS]
     need
 }
 
-// Whether the table links each message's buffers, as many as it needs, all that are not free and no other.
-// Most of the time every buffer links to itself, and a short way decides.
+/// Whether the table links each message's buffers, as many as it needs, all that are not free and no other.
+/// Most of the time every buffer links to itself, and a short way decides.
 pub fn chained(chain: &[Bid; BUFFERS], need: &[u8; BUFFERS], free: Bids) -> bool
     ensures { Decides result (Chained (map num chain.now) need.now (bits free.0)) }
 {

@@ -1,5 +1,5 @@
 // The short way to decide what the links hold: where every buffer links to itself, a message has one buffer.
-// Nothing is assumed of the bytes. Every loop asks all buffers, with no early exit: so compiled, several at once.
+// Nothing is assumed of the bytes. Every fold asks all buffers, with no early exit: so compiled, several at once.
 ghost use Rattle.std.specs.Prelude.{◌≡◌, not, map, ℕ, ◌*◌, ◌/◌, ◌%◌, ◌^◌, ◌<◌};
 ghost use Rattle.bits.specs.Word.{bit, bits, width};
 ghost use Rattle.rings.specs.Decides.{Decides};
@@ -12,11 +12,7 @@ use sizes::{BUFFERS, Bid};
 pub(crate) fn separate(chain: &[Bid; BUFFERS]) -> bool
     ensures { Decides result (Separate (map num chain.now)) }
 {
-    let mut all = true;
-    for b in 0..BUFFERS {
-        all &= chain[b].0 == b as u8;
-    }
-    all
+    (0..BUFFERS).fold(true, |all, b| all & (chain[b] == Bid(b as u8)))
 }
 
 // The byte of a word that has bit b, of the bits below 32.
@@ -45,9 +41,5 @@ fn single(need: u8, free: bool) -> bool
 pub(crate) fn all_single(need: &[u8; BUFFERS], free: u32) -> bool
     ensures { Decides result ((b : ℕ) → b < width → Single need.now (bits free) b) }
 {
-    let mut all = true;
-    for b in 0..BUFFERS {
-        all &= single(need[b], in_byte(free, b));
-    }
-    all
+    (0..BUFFERS).fold(true, |all, b| all & single(need[b], in_byte(free, b)))
 }

@@ -8,7 +8,7 @@ ghost use Rattle.chains.specs.Chained.{used, Chained, Walked, Alone, AllWalked};
 
 use crate::next;
 use crate::singles::in_byte;
-use bits::{has_bit, without_bit};
+use bits::{has_bit, put_bit};
 use sizes::{BUFFERS, Bid};
 
 // n buffers from b on: each is still to be reached, and the last links to itself. What is then still to be reached, or None where they are not so.
@@ -22,11 +22,11 @@ fn walk(chain: &[Bid; BUFFERS], b: Bid, n: u8, todo: u32) -> Option<u32>
         if !has_bit(left, x.0 as u32) {
             return None;
         }
-        left = without_bit(left, x.0 as u32);
+        left = put_bit(left, x.0 as u32, false);
         last = x;
         x = next(chain, x);
     }
-    if x == last { Some(left) } else { None }
+    (x == last).then_some(left)
 }
 
 // Those that are not free.
@@ -58,11 +58,10 @@ fn rests(is_free: bool, after: Bid, b: Bid) -> bool
 fn all_rest(chain: &[Bid; BUFFERS], free: u32) -> bool
     ensures { Decides result ((p : ℕ) → p < width → Alone (map num chain.now) (bits free) p) }
 {
-    let mut all = true;
-    for b in 0..BUFFERS {
-        all &= rests(in_byte(free, b), chain[b], Bid(b as u8));
-    }
-    all
+    (0..BUFFERS).fold(
+        true,
+        |all, b| all & rests(in_byte(free, b), chain[b], Bid(b as u8)),
+    )
 }
 
 // Whether the table links each message's buffers, as many as it needs, all that are not free and no other.

@@ -1,5 +1,6 @@
 // The calls for C firmware: the archive that firmware links is made of this crate alone.
 // Each export is the call of its name in board or listing, and promises what that promises, in the same words.
+// It stands here again, since a crate is a library or a static library, and board and listing are libraries of other crates.
 #![tactic(auto)]
 
 ghost use Rattle.plain.specs.Calls as Plain;

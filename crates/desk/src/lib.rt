@@ -17,13 +17,14 @@ use kernel::{Done, Kernel, Settings};
 use script::calls;
 use script::calls::{Quiet, Word};
 use script::hex::{MOST_BYTES, put_bytes};
+use verdicts::DONE;
 
 const LARGEST_ROOM: usize = calls::LARGEST_ROOM as usize;
 
-// An area of so many bytes takes every answer.
+/// An area of so many bytes takes every answer.
 pub const LONGEST_TEXT: usize = answers::TEXT_ROOM + 2 * LARGEST_ROOM;
 
-// The kernel, and whether the next line is the first, which alone can name the slice.
+/// The kernel, and whether the next line is the first, which alone can name the slice.
 #[derive(Clone, Copy)]
 pub struct Desk {
     pub state: Kernel,
@@ -31,7 +32,7 @@ pub struct Desk {
 }
 
 impl Desk {
-    // Before the first line.
+    /// Before the first line.
     pub fn fresh() -> Desk
         ensures { HoldsDesk result at_first }
     {
@@ -40,7 +41,8 @@ impl Desk {
     }
 }
 
-// The desk after a line, and how many bytes of the lent area the answer takes.
+/// The desk after a line, and how many bytes of the lent area the answer takes: a number beside it, since there is no heap. Each function takes
+/// the desk first and the area last, and no struct has both: the area is lent for one answer.
 #[derive(Clone, Copy)]
 pub struct Turn {
     pub desk: Desk,
@@ -82,10 +84,8 @@ fn called(k: Kernel, call: Quiet) -> Done
 fn tell(done: Done, out: &mut [u8]) -> Turn
     ensures { Told done out.old out.new result }
 {
-    let a = done.answer;
-    let state = done.state;
-    let length = answers::put_line(out, a.code, a.number, a.running);
-    turned(state, length)
+    let length = answers::put_line(out, done.answer);
+    turned(done.state, length)
 }
 
 // The pairs of hex spell the message.
@@ -95,8 +95,7 @@ fn send(d: Desk, store: &mut [u8], m: u32, hex: &[u8], out: &mut [u8]) -> Turn
 {
     let mut bytes = [0; MOST_BYTES];
     let n = put_bytes(&mut bytes, hex);
-    let k = d.state;
-    let done = k.send(store, m, &bytes[..n]);
+    let done = d.state.send(store, m, &bytes[..n]);
     tell(done, out)
 }
 
@@ -107,16 +106,14 @@ fn read(d: Desk, store: &[u8], n: u32, out: &mut [u8]) -> Turn
 {
     let mut room = [0; LARGEST_ROOM];
     let size = n as usize;
-    let k = d.state;
-    let done = k.read(store, &mut room[..size]);
+    let done = d.state.read(store, &mut room[..size]);
     let a = done.answer;
-    if a.code != 0 {
+    if a.code != DONE {
         return tell(done, out);
     }
     let shown = a.number as usize;
-    let state = done.state;
-    let length = answers::put_read_line(out, a.code, a.number, a.running, &room[..shown]);
-    turned(state, length)
+    let length = answers::put_read_line(out, a, &room[..shown]);
+    turned(done.state, length)
 }
 
 // Why the process of that name waits, whatever the store holds. A refusal shows no reason.
@@ -124,22 +121,20 @@ fn why(d: Desk, name: u32, out: &mut [u8]) -> Turn
     ensures { (store : List ℕ) → Turned (some (why name)) store out.old d store out.new result }
 {
     let w = reasons::why(d.state, name);
-    let answer = w.answer;
     let Some(reason) = w.reason else {
-        let length = answers::put_line(out, answer.code, answer.number, answer.running);
+        let length = answers::put_line(out, w.answer);
         return turned(d.state, length);
     };
-    let length = wording::put_reason_line(out, answer.code, answer.number, answer.running, reason);
+    let length = wording::put_reason_line(out, w.answer, reason);
     turned(d.state, length)
 }
 
-// A line that is no order, whatever the store holds.
+/// A line that is no order, whatever the store holds.
 pub fn bad(d: Desk, out: &mut [u8]) -> Turn
     ensures { (store : List ℕ) → Turned none store out.old d store out.new result }
 {
-    let k = d.state;
     let length = answers::put_bad(out);
-    turned(k, length)
+    turned(d.state, length)
 }
 
 // Only the very first line can name the slice. It is answered as the fresh start, whatever the store holds.
@@ -153,7 +148,7 @@ fn start(d: Desk, n: u32, out: &mut [u8]) -> Turn
     bad(d, out)
 }
 
-// Any line and any area: where the answer does not fit into out, nothing is written there and the length is 0.
+/// Any line and any area: where the answer does not fit into out, nothing is written there and the length is 0.
 pub fn line(d: Desk, store: &mut [u8], line: &[u8], out: &mut [u8]) -> Turn
     ensures { Line store.old line.now out.old d store.new out.new result }
 {
@@ -162,8 +157,7 @@ pub fn line(d: Desk, store: &mut [u8], line: &[u8], out: &mut [u8]) -> Turn
     };
     match word {
         Word::Call(call) => {
-            let k = d.state;
-            let done = called(k, call);
+            let done = called(d.state, call);
             tell(done, out)
         }
         Word::Send(m, n) => {

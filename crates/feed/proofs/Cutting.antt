@@ -16,7 +16,7 @@ use Rattle.std.specs.List.{position, position_or_len}
 use Rattle.std.proofs.lemmas.Grind.{common_steps}
 use Rattle.std.proofs.lemmas.List.Quantifiers.{position-Some}
 use Rattle.std.proofs.lemmas.List.Sums.{fails_before_first}
-use Rattle.lists.proofs.Laws.{either}
+use Rattle.std.proofs.lemmas.Bool.{cases_Bool}
 use Rattle.feed.specs.Cut.{newline, ended, pending, ending, lines_of, with_newlines, NoNewline}
 
 pub ended-append : (p a b : List ℕ) → ended p (a ++ b) ≡ ended p a ++ ended (pending p a) b
@@ -25,7 +25,7 @@ ended-append p [] b = refl
 ended-append p (x ∷ a) b = ⊎_elim
     (λ e. rw e (ap (λ (l : List (List ℕ)). p ∷ l) (ended-append [] a b)))
     (λ e. rw e (ended-append (p ++ (x ∷ [])) a b))
-    (either (eqb x newline))
+    (cases_Bool (eqb x newline))
 
 pub pending-append : (p a b : List ℕ) → pending p (a ++ b) ≡ pending (pending p a) b
 unfolding pending
@@ -33,7 +33,7 @@ pending-append p [] b = refl
 pending-append p (x ∷ a) b = ⊎_elim
     (λ e. rw e (pending-append [] a b))
     (λ e. rw e (pending-append (p ++ (x ∷ [])) a b))
-    (either (eqb x newline))
+    (cases_Bool (eqb x newline))
 
 pub newlines_append : (a b : List (List ℕ)) → with_newlines (a ++ b) ≡ with_newlines a ++ with_newlines b
 newlines_append [] b = refl

@@ -2,12 +2,10 @@
 // The caller lends the store, the line buffer and an area for the answers, carries along what goes on from chunk to chunk, and moves the bytes. Assumes nothing.
 #![tactic(auto)]
 
-ghost use Rattle.std.specs.Prelude.{ℕ, ◌+◌, ◌≤◌, ◌<◌, ◌≡◌, List, ◌++◌, eqb, length};
-ghost use Rattle.std.specs.List.{position};
+ghost use Rattle.std.specs.Prelude.{ℕ, ◌+◌, ◌≤◌, ◌<◌, ◌≡◌, List, ◌++◌, length};
 ghost use Rattle.desk.specs.Line.{Line};
 ghost use Rattle.desk.specs.Theorems.{longest_text};
 ghost use Rattle.feed.specs.Buffer.{told, Told, HoldsLine};
-ghost use Rattle.feed.specs.Cut.{newline};
 ghost use Rattle.feed.specs.Takes.{FromFresh, Feeds, GoesOn, Finishes};
 ghost use Rattle.feed.specs.Promises.{AnsweredBehind, fed_so_far};
 
@@ -16,7 +14,7 @@ use script::LONGEST_LINE;
 
 const NEWLINE: u8 = b'\n';
 
-// What goes on from chunk to chunk beside the lent areas: the desk, and how many bytes the line buffer holds of a line that has not ended. None says that this line is too long, and so does any number over the longest line.
+/// What goes on from chunk to chunk beside the lent areas: the desk, and how many bytes the line buffer holds of a line that has not ended. None says that this line is too long, and so does any number over the longest line.
 #[derive(Clone, Copy)]
 pub struct Ongoing {
     pub desk: Desk,
@@ -24,7 +22,7 @@ pub struct Ongoing {
 }
 
 impl Ongoing {
-    // Before the first byte.
+    /// Before the first byte.
     pub fn fresh() -> Ongoing
         ensures { FromFresh result }
     {
@@ -35,19 +33,12 @@ impl Ongoing {
     }
 }
 
-// What goes on, how many bytes of the chunk are taken, and how many of the area are written.
+/// What goes on, how many bytes of the chunk are taken, and how many of the area are written: a number beside a lent area, since there is no heap.
 #[derive(Clone, Copy)]
 pub struct Fed {
     pub next: Ongoing,
     pub used: usize,
     pub wrote: usize,
-}
-
-// The place of the first newline, if there is one.
-fn first_newline(s: &[u8]) -> Option<usize>
-    ensures { result ≡ position (λ b. eqb b newline) s.now }
-{
-    s.iter().position(|b| *b == NEWLINE)
 }
 
 // None for every length over the longest.
@@ -122,7 +113,9 @@ fn so_far(t: Turn, held: Option<usize>, used: usize) -> Fed
     }
 }
 
-// Takes a chunk, or as much of it as there is room for the answers to its lines: nothing more where the longest text and its newline might not fit. What is left is given again.
+// The store, the line buffer and the area are what callers lend. Each is an argument of its own, since the promises, Feeds and Finishes, speak of each.
+
+/// Takes a chunk, or as much of it as there is room for the answers to its lines: nothing more where the longest text and its newline might not fit. What is left is given again.
 pub fn feed(
     o: Ongoing,
     store: &mut [u8],
@@ -145,7 +138,7 @@ pub fn feed(
             return so_far(t, held, used);
         }
         let rest = &chunk[used..];
-        let Some(n) = first_newline(rest) else {
+        let Some(n) = rest.iter().position(|b| *b == NEWLINE) else {
             return so_far(t, append(line, held, rest), chunk.len());
         };
         held = append(line, held, &rest[..n]);
@@ -156,7 +149,7 @@ pub fn feed(
     so_far(t, held, used)
 }
 
-// The input has ended: a last line without a newline is answered too, where there is room for the longest text and its newline.
+/// The input has ended: a last line without a newline is answered too, where there is room for the longest text and its newline.
 pub fn finish(o: Ongoing, store: &mut [u8], line: &[u8; LONGEST_LINE], out: &mut [u8]) -> Turn
     ensures { Finishes store.old line.now out.old o store.new out.new result }
 {

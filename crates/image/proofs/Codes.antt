@@ -9,6 +9,7 @@ use native.Mathlib.Omega.{arith}
 use native.Mathlib.Nat.{suc-mul, add_comm, pow-suc}
 use lib.ListN.{length, take, drop, length-append, length-drop, take-append-drop}
 use lib.Seq.{length-take-le}
+use Rattle.std.proofs.lemmas.List.{nil_from_length}
 use Rattle.image.specs.Bytes.{byte, le, each}
 use Rattle.image.specs.Image.{U8, Array}
 use Rattle.image.specs.Theorems.{Bytes}
@@ -30,10 +31,6 @@ split (x ∷ a) (y ∷ b) c d e f =
     let t : a ++ c ≡ b ++ d = cc in
     let r = split a b c d (omega arith) t in
     (ap₂ ◌∷◌ h r.0, r.1)
-
-none : (l : List ℕ) → length l ≡ 0 → l ≡ []
-none [] e = refl
-none (x ∷ l) e = absurd (omega arith)
 
 bytes_none : Bytes []
 bytes_none x m = absurd (Memᴰ.not-nil m)
@@ -121,7 +118,7 @@ module _ {A : Type 0} {f : A → List ℕ} {w : ℕ} {F : A → Type 0} (c : Cod
       ap₂ ◌∷◌ (c.one x y h k s.0) (each-one xs ys (omega arith) (rest x xs a) (rest y ys b) s.1)
 
   each_every : (n : ℕ) (l : List ℕ) → length l ≡ n * w → Bytes l → (xs : List A) × Array n F xs × (each f xs ≡ l)
-  each_every zero l e h = ([], record { long = refl; fit = λ x m. absurd (Memᴰ.not-nil m) }, sym (none l (omega arith)))
+  each_every zero l e h = ([], record { long = refl; fit = λ x m. absurd (Memᴰ.not-nil m) }, sym (nil_from_length l (omega arith)))
   each_every (suc n) l e h =
       let g = e ∙ more n in
       let x = c.every (take w l) (front_long w (n * w) l g h) (front_bytes w (n * w) l g h) in
@@ -171,7 +168,7 @@ le-one (suc w) x y h k e =
     omega arith
 
 le_every : (w : ℕ) (l : List ℕ) → length l ≡ w → Bytes l → (x : ℕ) × (x < 256 ^ w) × (le w x ≡ l)
-le_every zero l e h = (0, omega arith, sym (none l e))
+le_every zero l e h = (0, omega arith, sym (nil_from_length l e))
 le_every (suc w) [] e h = absurd (omega arith)
 le_every (suc w) (a ∷ l) e h =
     let b = h a (Memᴰ.head refl) in

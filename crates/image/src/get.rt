@@ -1,5 +1,5 @@
 // Reading: numbers, arrays and structs from the bytes of an area, at their places.
-// The area may have any length: what is not in it is read as zeros.
+// The area may have any length: where it has all the bytes of a field, the field is what they say.
 ghost use Rattle.std.specs.Prelude.{◌*◌};
 ghost use Rattle.image.specs.Bytes.{byte, le, each, Got};
 ghost use Rattle.image.specs.Image.{procs_long, boxes_long, mail_long, settings_at, settings_long, procs, boxes, mail, settings};
@@ -11,12 +11,13 @@ use mail::Mail;
 use procs::Procs;
 use queues::Queues;
 use sizes::{Bids, Pid, Pids, Unit};
+use tables::has_room;
 
 pub(crate) fn units<T: Unit, const N: usize>(area: &[u8], at: usize) -> [T; N]
     ensures { Got at N (each (λ x. byte (T.num x)) result) area.now }
 {
     let mut out = [T::of(0); N];
-    if layout::has_room(area.len(), at, N) {
+    if has_room(area.len(), at, N) {
         for i in 0..N {
             out[i] = T::of(area[at + i]);
         }
@@ -36,11 +37,12 @@ fn word(area: &[u8], at: usize) -> u32
     u32::from_le_bytes(units(area, at))
 }
 
+// Two bytes to an entry: an array of 2 * N bytes, which `units` would take, cannot be named.
 pub(crate) fn halfwords<const N: usize>(area: &[u8], at: usize) -> [u16; N]
     ensures { Got at (2 * N) (each (le 2) result) area.now }
 {
     let mut out = [0u16; N];
-    if layout::has_room(area.len(), at, 2 * N) {
+    if has_room(area.len(), at, 2 * N) {
         for i in 0..N {
             let n = at + 2 * i;
             out[i] = u16::from_le_bytes([area[n], area[n + 1]]);

@@ -1,12 +1,7 @@
 // Where each field starts in the image, in the order of the struct, and where the image ends.
-ghost use Rattle.std.specs.Prelude.{◌≡◌, ◌+◌, leb};
-
-use sizes::{BUFFERS, MAILBOXES, PROCESSES, QUEUES, SEMAPHORES};
-
-// The nodes of the process queues and of the mailboxes' queues: a link on and a link back for each.
-pub(crate) const NODES: usize = PROCESSES + QUEUES;
-
-pub(crate) const BOX_NODES: usize = BUFFERS + MAILBOXES;
+use boxes::BOX_NODES;
+use queues::QUEUE_NODES;
+use sizes::{BUFFERS, MAILBOXES, PROCESSES, SEMAPHORES};
 
 pub(crate) const RUNNING: usize = 0;
 
@@ -16,9 +11,9 @@ pub(crate) const TICKS: usize = CLASS + PROCESSES;
 
 pub(crate) const NEXT: usize = TICKS + PROCESSES;
 
-pub(crate) const PREV: usize = NEXT + NODES;
+pub(crate) const PREV: usize = NEXT + QUEUE_NODES;
 
-pub(crate) const READY: usize = PREV + NODES;
+pub(crate) const READY: usize = PREV + QUEUE_NODES;
 
 pub(crate) const UNUSED: usize = READY + 4;
 
@@ -46,11 +41,4 @@ pub(crate) const CAPACITY: usize = SLICE + 1;
 
 pub(crate) const MODE: usize = CAPACITY + MAILBOXES;
 
-pub(crate) const SIZE: usize = MODE + MAILBOXES;
-
-// Whether w bytes from at on lie within n bytes.
-pub(crate) fn has_room(n: usize, at: usize, w: usize) -> bool
-    ensures { result ≡ leb (at + w) n }
-{
-    at <= n && w <= n - at
-}
+pub const SIZE: usize = MODE + MAILBOXES;

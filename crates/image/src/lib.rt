@@ -5,18 +5,21 @@
 ghost use Rattle.std.specs.Prelude.{◌≡◌};
 ghost use Rattle.image.specs.Image.{blank, Read, Written};
 
-use boxes::Boxes;
+use boxes::{BOX_NODES, Boxes};
 use kernel::{Kernel, Settings};
 use mail::Mail;
 use procs::Procs;
-use queues::Queues;
+use queues::{QUEUE_NODES, Queues};
 use sizes::{BUFFERS, Bid, Bids, MAILBOXES, PROCESSES, Pid, Pids, SEMAPHORES};
 
 mod get;
 mod layout;
 mod put;
 
-// The kernel whose image the area is.
+pub use layout::SIZE;
+
+/// The kernel whose image the area is.
+/// Not inlined, since its frame would be added to that of the call, and docs/BOARD.md bounds a call's stack.
 #[inline(never)]
 pub fn read(area: &[u8]) -> Kernel
     ensures { Read area.now result }
@@ -33,7 +36,7 @@ pub fn read(area: &[u8]) -> Kernel
     }
 }
 
-// The area becomes the image of k.
+/// The area becomes the image of k.
 pub fn write(area: &mut [u8], k: Kernel)
     ensures { Written k area.old area.new }
 {
@@ -54,8 +57,8 @@ fn blank_mail() -> Mail
 {
     Mail {
         boxes: Boxes {
-            next: [Bid(0); layout::BOX_NODES],
-            prev: [Bid(0); layout::BOX_NODES],
+            next: [Bid(0); BOX_NODES],
+            prev: [Bid(0); BOX_NODES],
         },
         hand: [Bid(0); PROCESSES],
         full: Pids(0),
@@ -65,7 +68,7 @@ fn blank_mail() -> Mail
     }
 }
 
-// Every field is zero.
+// Every field is zero: no Option, since `Read` says so, and such a kernel is not sound, so every call answers it with 14.
 fn blank() -> Kernel
     ensures { result ≡ blank }
 {
@@ -75,8 +78,8 @@ fn blank() -> Kernel
             class: [0; PROCESSES],
             ticks: [0; PROCESSES],
             queues: Queues {
-                next: [Pid(0); layout::NODES],
-                prev: [Pid(0); layout::NODES],
+                next: [Pid(0); QUEUE_NODES],
+                prev: [Pid(0); QUEUE_NODES],
             },
             ready: 0,
             unused: Pids(0),

@@ -10,12 +10,13 @@ use kernel::Settings;
 use mail::Mail;
 use procs::Procs;
 use sizes::Unit;
+use tables::has_room;
 
 // An array comes by value and is copied in a loop: of one that is lent, or by `copy_from_slice`, LLVM cannot tell that the area is another place, leaves `write` out of its callers, and makes them call `memset`.
 pub(crate) fn units<T: Unit, const N: usize>(area: &mut [u8], at: usize, xs: [T; N])
     ensures { Put at N (each (λ x. byte (T.num x)) xs) area.old area.new }
 {
-    if layout::has_room(area.len(), at, N) {
+    if has_room(area.len(), at, N) {
         for i in 0..N {
             area[at + i] = xs[i].number();
         }
@@ -34,10 +35,11 @@ fn word(area: &mut [u8], at: usize, x: u32)
     units(area, at, x.to_le_bytes());
 }
 
+// Two bytes to an entry: an array of 2 * N bytes, which `units` would take, cannot be named.
 pub(crate) fn halfwords<const N: usize>(area: &mut [u8], at: usize, xs: [u16; N])
     ensures { Put at (2 * N) (each (le 2) xs.entry) area.old area.new }
 {
-    if layout::has_room(area.len(), at, 2 * N) {
+    if has_room(area.len(), at, 2 * N) {
         for i in 0..N {
             let n = at + 2 * i;
             let [low, high] = xs[i].to_le_bytes();

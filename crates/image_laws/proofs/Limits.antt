@@ -8,7 +8,8 @@ use mathlib.Core.Option.{Option, none, some}
 use native.Mathlib.Omega.{arith}
 use lib.ListN.{get_or}
 use Rattle.lists.specs.Lists.{occurs}
-use Rattle.lists.proofs.Laws.{same?, le?, one_same, one_other, occurs-append}
+use Rattle.std.proofs.lemmas.Bool.{cases_eq}
+use Rattle.lists.proofs.Laws.{le?, one_same, one_other, occurs-append}
 use Rattle.chains.specs.Led.{after, Led}
 use Rattle.chains.specs.Links.{run}
 use Rattle.chains.proofs.Laws.{led_run}
@@ -29,11 +30,11 @@ led_inside t Led.none low b o = absurd (omega arith)
 led_inside t (Led.last {b = a} e) low b o = ⊎_elim
     (λ (d : a ≡ b). omega (arith, ap (after t) d, low a (omega (arith, one_same a))))
     (λ (d : a ≢ b). absurd (omega (arith, one_other a b d)))
-    (same? a b)
+    (cases_eq a b)
 led_inside t (Led.on {b = a} {x = x} {l = l} d) low b o = ⊎_elim
     (λ (e : a ≡ b). omega (arith, ap (after t) e, ap (λ (r : List ℕ). get_or r 0 0) (led_run t d), low x (omega (arith, one_same x))))
     (λ (e : a ≢ b). led_inside t d (λ p h. low p (omega arith)) b (omega (arith, one_other a b e)))
-    (same? a b)
+    (cases_eq a b)
 
 -- what has these messages has, where one begins, its length, and where one lies, a link within it
 module _ (lengths chain : List ℕ) (b : ℕ) where
@@ -42,7 +43,7 @@ module _ (lengths chain : List ℕ) (b : ℕ) where
   first_short (x ∷ l) h w o = ⊎_elim
       (λ (e : first_of x ≡ b). omega (arith, ap (λ (i : ℕ). get_or lengths i 0) e, h.0.long, w.0.short))
       (λ (d : first_of x ≢ b). first_short l h.1 w.1 (omega (arith, one_other (first_of x) b d)))
-      (same? (first_of x) b)
+      (cases_eq (first_of x) b)
 
   lies_inside : {n : ℕ} (l : List Message) → Each (Has lengths chain) l → ((p : ℕ) → 1 ≤ occurs p (buffers_of l) → p < n) → 1 ≤ occurs b (buffers_of l) → after chain b < n
   lies_inside [] h low o = absurd (omega arith)

@@ -7,7 +7,8 @@ use mathlib.Core.List.{List, [], ◌∷◌, ◌++◌}
 use mathlib.Core.Option.{Option, none, some}
 use native.Mathlib.Omega.{arith}
 use Rattle.lists.specs.Lists.{occurs, total}
-use Rattle.lists.proofs.Laws.{same?, le?, occurs-append, total-same, total_zero, total-at}
+use Rattle.std.proofs.lemmas.Bool.{cases_eq}
+use Rattle.lists.proofs.Laws.{le?, occurs-append, total-same, total_zero, total-at}
 use Rattle.plain.specs.Sizes.{processes, mailboxes}
 use Rattle.plain.specs.State.{Message, Each, InHand, buffers_of, in_hand, held}
 use Rattle.mail.specs.Carries.{firsts, first_in, NoneAt}
@@ -52,7 +53,7 @@ module _ (P : Message → Type 0) where
   each_part zero g a i h = absurd (omega arith)
   each_part (suc n) g a i h =
       let p = each_parts (g n) (gathered n g) a in
-      ⊎_elim (λ (e : i ≡ n). rw e p.0) (λ d. each_part n g p.1 i (omega arith)) (same? i n)
+      ⊎_elim (λ (e : i ≡ n). rw e p.0) (λ d. each_part n g p.1 i (omega arith)) (cases_eq i n)
 
   each-listed : (h : Option Message) → InHand P h → Each P (listed h)
   each-listed none a = tt

@@ -6,7 +6,8 @@ use mathlib.Core.Logic.{⊎_elim}
 use mathlib.Core.List.{List, [], ◌∷◌, ◌++◌}
 use native.Mathlib.Omega.{arith}
 use Rattle.lists.specs.Lists.{one, occurs}
-use Rattle.lists.proofs.Laws.{same?, le?, one_same, one_other, occurs_rear}
+use Rattle.std.proofs.lemmas.Bool.{cases_eq}
+use Rattle.lists.proofs.Laws.{le?, one_same, one_other, occurs_rear}
 use Rattle.rings.specs.Ring.{Tables, next_at, prev_at, Chain, done, step, Rings}
 use Rattle.rings.proofs.Chains.{Below, below_first, below_rest}
 use Rattle.rings.proofs.Laws.{placed, ring_below}
@@ -17,18 +18,18 @@ module _ {k : ℕ} {t : Tables} where
   next_below [] {a} h (step e c) b x o = ⊎_elim
       (λ z. omega (arith, ap (next_at t) z, e.to, below_first h [] b))
       (λ z. absurd (omega (arith, one_other a x z)))
-      (same? a x)
+      (cases_eq a x)
   next_below (y ∷ l) {a} h (step e c) b x o = ⊎_elim
       (λ z. omega (arith, ap (next_at t) z, e.to, below_first y (l ++ h ∷ []) b))
       (λ z. next_below l h c (below_rest y (l ++ h ∷ []) b) x (omega (arith, one_other a x z)))
-      (same? a x)
+      (cases_eq a x)
 
   prev_below : {a : ℕ} {l : List ℕ} → Chain t a l → a < k → Below k l → (x : ℕ) → 1 ≤ occurs x l → prev_at t x < k
   prev_below done h b x o = absurd (omega arith)
   prev_below (step {x = y} {l = l} e c) h b x o = ⊎_elim
       (λ z. omega (arith, ap (prev_at t) z, e.back))
       (λ z. prev_below c (below_first y l b) (below_rest y l b) x (omega (arith, one_other y x z)))
-      (same? y x)
+      (cases_eq y x)
 
 module _ {n m : ℕ} {t : Tables} {f : ℕ → List ℕ} (R : Rings n m t f) where
   abbrev pub Inside : ℕ → Type 0

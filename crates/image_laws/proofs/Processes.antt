@@ -6,7 +6,8 @@ use mathlib.Core.Logic.{◌≢◌, ⊎_elim}
 use mathlib.Core.List.{map}
 use native.Mathlib.Omega.{arith}
 use Rattle.lists.specs.Lists.{occurs}
-use Rattle.lists.proofs.Laws.{same?, total_zero}
+use Rattle.std.proofs.lemmas.Bool.{cases_eq}
+use Rattle.lists.proofs.Laws.{total_zero}
 use Rattle.bits.specs.Word.{width, word}
 use Rattle.rings.specs.Ring.{Tables, Rings}
 use Rattle.queues.specs.Queue.{num, tables_of}
@@ -43,7 +44,7 @@ module _ (s : Plain.Procs) {n : ℕ} (S : Seated n s) where
     once = λ p. ⊎_elim
         (λ (e : p ≡ 0). omega (arith, total_zero queues (λ q. occurs p (s.queue q)) (λ q h. rw e (S.null_nowhere q))))
         (λ (d : p ≢ 0). omega (arith, S.one_place p (omega arith)))
-        (same? p 0);
+        (cases_eq p 0);
   }
 
   stands : (t : Tables) → Rings processes queues t s.queue → Stands (numbers (procs_of s t)) s

@@ -6,7 +6,8 @@ use mathlib.Core.Logic.{◌≢◌, ⊎_elim}
 use mathlib.Core.List.{List, [], ◌∷◌, ◌++◌, append_assoc, append-nil}
 use native.Mathlib.Omega.{arith}
 use Rattle.lists.specs.Lists.{put, occurs, total}
-use Rattle.lists.proofs.Laws.{same?, le?, put_same, put_other, put_cases, one_same, occurs-append, total-le, total-at, total_two}
+use Rattle.std.proofs.lemmas.Bool.{cases_eq}
+use Rattle.lists.proofs.Laws.{le?, put_same, put_other, put_cases, one_same, occurs-append, total-le, total-at, total_two}
 use Rattle.rings.specs.Ring.{Tables, Absent, Rings}
 use Rattle.rings.specs.Moves.{fresh}
 use Rattle.rings.proofs.Looks.{fresh_rings}
@@ -40,12 +41,12 @@ module _ {n m : ℕ} {f : ℕ → List ℕ} (o : Orderly n m f) (q : ℕ) (hq : 
       (λ h. ap (occurs p) (sym (same i d) ∙ o.beyond i h))
       (λ h. omega (arith, here, one_same p, ap (occurs p) (same i d), total_two m (λ j. occurs p (f j)) i q h hq d, o.once p))
       (le? m i))
-      (same? i q)
+      (cases_eq i q)
 
   joined : (l : List ℕ) (g : ℕ → List ℕ) {t : Tables} → Rings n m t g → f q ≡ g q ++ l → ((i : ℕ) → i ≢ q → f i ≡ g i)
       → (u : Tables) × Rings n m u f
   joined [] g {t} R e same =
-      let all : g ≡ f = fun_ext (λ i. ⊎_elim (λ (d : i ≡ q). rw d (sym (e ∙ append-nil (g q)))) (λ (d : i ≢ q). sym (same i d)) (same? i q)) in
+      let all : g ≡ f = fun_ext (λ i. ⊎_elim (λ (d : i ≡ q). rw d (sym (e ∙ append-nil (g q)))) (λ (d : i ≢ q). sym (same i d)) (cases_eq i q)) in
       (t, subst (Rings n m t) all R)
   joined (p ∷ l) g {t} R e same =
       let longer : List ℕ = g q ++ (p ∷ []) in

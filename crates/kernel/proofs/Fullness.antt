@@ -9,7 +9,8 @@ use native.Mathlib.Omega.{arith}
 use lib.Dec.{leb, eqb}
 use lib.ListN.{length, set, length-set}
 use borrow.Author.Tests.{leb-false}
-use Rattle.lists.proofs.Laws.{either, le?}
+use Rattle.std.proofs.lemmas.Bool.{cases_Bool}
+use Rattle.lists.proofs.Laws.{le?}
 use Rattle.plain.specs.Calls as Plain
 use Rattle.plain.specs.Calls.{on, no_mailbox}
 use Rattle.plain.specs.Mailboxes.{allotted, allot, busy, is_full, drops, refuses, overflows, relieved, buffers_for, no_buffers}
@@ -114,7 +115,7 @@ module _ {k : Kernel} {s : State} (H : Holds k s) (m : ℕ) where
   busy-found S r = ⊎_elim
       (λ (e : leb mailboxes m ≡ true). stops (no_mailbox m) (r ∷ on 18 (busy m s) ∷ []) e (λ z. omega arith) ∙ sym (stops (no_mailbox m) (r ∷ on 18 (busy_at k m) ∷ []) e (λ z. omega arith)))
       (λ (e : leb mailboxes m ≡ false). ap (λ (b : Bool). found (no_mailbox m ∷ r ∷ on 18 b ∷ [])) (sym (busy_is S (leb-false mailboxes m e))))
-      (either (leb mailboxes m))
+      (cases_Bool (leb mailboxes m))
 
   pub allotted_holds : {r : Kernel} (c d : ℕ) → m < mailboxes
       → r ≡ record { procs = k.procs; mail = k.mail; count = k.count; births = k.births; settings = record { slice = k.settings.slice; capacity = set k.settings.capacity m c; mode = set k.settings.mode m d } }

@@ -10,7 +10,8 @@ use native.Mathlib.Omega.{arith}
 use lib.Dec.{eqb}
 use lib.ListN.{get_or}
 use borrow.Author.Tests.{eqb-true, eqb-false}
-use Rattle.lists.proofs.Laws.{either, nobody, same?, le?, one_other, total_zero}
+use Rattle.std.proofs.lemmas.Bool.{cases_Bool, cases_eq}
+use Rattle.lists.proofs.Laws.{nobody, le?, one_other, total_zero}
 use Rattle.lists.specs.Lists.{someone, occurs}
 use Rattle.bits.proofs.Words.{word_has}
 use Rattle.bits.specs.Word.{width, word, bits}
@@ -54,7 +55,7 @@ module _ (s : State) (at : List ℕ) (full : ℕ) (holding : ℕ → Bool) (is-f
           used = λ z. ⊎_elim (λ e. e)
               (λ (e : eqb p s.procs.running ≡ false). absurd (true≢false (sym f ∙ empty_bit p h' (k.hands.unused p
               (nowhere_at-all s.procs p (λ d. eqb-false p s.procs.running e (sym d)) (stands_nowhere s.procs.queue at stands p z))))))
-              (either (eqb p s.procs.running));
+              (cases_Bool (eqb p s.procs.running));
           at_no_mailbox = λ m b e. true≢false (sym f ∙ empty_bit p h' (k.hands.waiters m p b (there (at_mailbox m) e)));
         };
         lying = record {
@@ -71,7 +72,7 @@ module _ (s : State) (at : List ℕ) (full : ℕ) (holding : ℕ → Bool) (is-f
       let who : (q p : ℕ) → In s.procs q p → (1 ≤ p) × (p < processes) = λ q p o. member s.settings.slice s.procs seated q p o in
       let there : (q p : ℕ) → In s.procs q p → get_or at p 0 ≡ suc q = λ q p o. omega (arith, stands.there p q o) in
       let no-hand : (p : ℕ) → 1 ≤ p → p < processes → (HandFits (get_or at p 0) (eqb p s.procs.running) → ⊥) → s.hand p ≡ none = λ p h h' n.
-      hand_empty p h' (⊎_elim (λ e. absurd (n ((fit p h h').hand e))) (λ e. e) (either (bits full p))) in
+      hand_empty p h' (⊎_elim (λ e. absurd (n ((fit p h h').hand e))) (λ e. e) (cases_Bool (bits full p))) in
       record {
         settings = settings;
         seated = seated;
@@ -85,7 +86,7 @@ module _ (s : State) (at : List ℕ) (full : ℕ) (holding : ℕ → Bool) (is-f
                 runs_once s.procs,
                 ap (places s.procs) (eqb-true p s.procs.running (f.used (stands.nowhere p (λ q. nowhere s.settings.slice s.procs seated p q z)))),
               )))
-              (same? p 0))
+              (cases_eq p 0))
               (le? processes p);
           null = hand_empty 0 (omega arith) null;
           waiters = λ m p h o. let w = who (at_mailbox m) p o in no-hand p w.0 w.1 (λ f. f.at_no_mailbox m h (there (at_mailbox m) p o));

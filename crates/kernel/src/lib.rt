@@ -1,4 +1,6 @@
 // The kernel: its state by value, the decision whether a state is sound, and every call as a method that hands back the next state beside the answer.
+// Every method answers for all numbers. So where a number goes into fewer bits it is cut, as in `(class % 256) as u8`: no cast may be left
+// unproved, and what `try_from` gives would have to be unwrapped. The verdict before it has bounded the number, so that it stays as it is.
 #![tactic(auto)]
 
 ghost use Rattle.std.specs.Prelude.{◌≡◌, Err};
@@ -12,7 +14,8 @@ ghost use Rattle.kernel.specs.Promise.{Starts};
 
 use mail::Mail;
 use procs::Procs;
-use verdicts::{Facts, Refusal};
+pub use verdicts::Answer;
+use verdicts::{DONE, Facts, Refusal};
 
 mod letters;
 mod mailboxes;
@@ -21,7 +24,12 @@ mod semaphores;
 mod setup;
 mod sound;
 
-// What is set: the ticks of a full slice, at the fresh start; how many messages each mailbox takes, and its mode, by a call too.
+// From this number on a Pid is nobody. Whether anyone waits is asked by it of the first of a queue, and not of the queue by is_empty: with
+// that, a signal cost some 100 instructions more.
+const PROCESSES: u8 = sizes::PROCESSES as u8;
+
+/// What is set: the ticks of a full slice, at the fresh start; how many messages each mailbox takes, and its mode, by a call too. These two
+/// are tables by the mailbox's number, as in the image, and no array of structs.
 #[derive(Clone, Copy)]
 pub struct Settings {
     pub slice: u8,
@@ -29,6 +37,8 @@ pub struct Settings {
     pub mode: [u8; sizes::MAILBOXES],
 }
 
+/// A whole state. What it has of a semaphore or a process, in procs too, stands in tables by number, as in the image, and in no array of
+/// structs.
 #[derive(Clone, Copy)]
 pub struct Kernel {
     pub procs: Procs,
@@ -38,15 +48,7 @@ pub struct Kernel {
     pub settings: Settings,
 }
 
-#[repr(C)]
-#[derive(Clone, Copy)]
-pub struct Answer {
-    pub code: u32,
-    pub number: u32,
-    pub running: u32,
-}
-
-// What a call hands back: the next state beside the answer.
+/// What a call hands back: the next state beside the answer.
 #[derive(Clone, Copy)]
 pub struct Done {
     pub state: Kernel,
@@ -54,7 +56,7 @@ pub struct Done {
 }
 
 impl Kernel {
-    // Process 0 runs, every other number is unused, and nothing lies or is counted anywhere.
+    /// Process 0 runs, every other number is unused, and nothing lies or is counted anywhere.
     pub fn fresh(settings: Settings) -> Kernel
         ensures { Holds result (start (named settings)) }
     {
@@ -67,14 +69,14 @@ impl Kernel {
         }
     }
 
-    // A fresh start with a slice named. Where that is refused the usual one holds.
+    /// A fresh start with a slice named. Where that is refused the usual one holds.
     pub fn fresh_start(slice: u32) -> Done
         ensures { Starts slice result }
     {
         if let Err(r) = verdicts::on_fresh_start(slice) {
             return Kernel::fresh(Settings::usual()).refuse(r);
         }
-        Kernel::fresh(Settings::of_slice((slice % 256) as u8)).answer(0, 0)
+        Kernel::fresh(Settings::of_slice((slice % 256) as u8)).answer(DONE, 0)
     }
 
     // The state with a code, a number and the process that runs.
@@ -91,7 +93,7 @@ impl Kernel {
         }
     }
 
-    // The state with a code and a number of a refusal and the process that runs; code 14 comes with running 0.
+    // The state with the code and the number of a verdict, 0 and 0 where nothing refuses, and the process that runs; code 14 comes with running 0.
     fn refused(self, code: u32, number: u32) -> Done
         ensures { result ≡ refused_with self (verdict code number) }
     {
@@ -110,30 +112,31 @@ impl Kernel {
         }
     }
 
-    // The state with what refused the call.
+    // The state with what refused the call. No call hands a refusal on by `?`: its answer has the state beside it in any case, so Done is no Result.
     fn refuse(self, r: Refusal) -> Done
         ensures { result ≡ refused_with self (told (Err r)) }
     {
         self.refused(r.code(), r.number())
     }
 
-    // A code and a number with the process that runs, of a question: the state stays in any case.
+    /// A code and a number with the process that runs, of a question: the state stays in any case.
     pub fn answer_to(self, code: u32, number: u32) -> Answer
         ensures { result ≡ (refused_with self (verdict code number)).answer }
     {
         self.refused(code, number).answer
     }
 
-    // The answer to a question on which this was found.
+    /// The answer to a question on which this was found.
     pub fn answer_found(self, v: Result<(), Refusal>) -> Answer
         ensures { result ≡ (refused_with self (told v)).answer }
     {
         match v {
-            Ok(()) => self.answer_to(0, 0),
+            Ok(()) => self.answer(DONE, 0).answer,
             Err(r) => self.refuse(r).answer,
         }
     }
 
+    // The state with one part anew, and three more for its other parts: each is one line at a call, where the literal takes four.
     fn with_procs(self, next: Procs) -> Kernel
         ensures { result ≡ record { procs = next; mail = self.mail; count = self.count; births = self.births; settings = self.settings } }
     {
@@ -167,7 +170,7 @@ impl Kernel {
         }
     }
 
-    // What is read off the state before any call is judged.
+    /// What is read off the state before any call is judged. Not inlined: its frame would be added to that of each call, and a call's stack is bounded.
     #[inline(never)]
     pub fn facts(self) -> Facts
         ensures { Gathered self result }

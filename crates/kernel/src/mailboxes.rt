@@ -1,17 +1,24 @@
 // mailbox, and what a full mailbox does with one message more.
-ghost use Rattle.std.specs.Prelude.{◌≡◌};
+ghost use Rattle.std.specs.Prelude.{◌≡◌, ◌%◌};
 ghost use Rattle.plain.specs.Calls as Plain;
+ghost use Rattle.plain.specs.Sizes.{mailboxes, at_mailbox};
 ghost use Rattle.kernel.specs.Full.{is_full_at, drops_at, fullness_at, busy_at};
 ghost use Rattle.kernel.specs.Promise.{Plainly};
 
-use crate::{Done, Kernel};
+use crate::{Done, Kernel, PROCESSES};
+use verdicts::DONE;
 
-const PROCESSES: u8 = sizes::PROCESSES as u8;
-
-const MAILBOXES: u32 = sizes::MAILBOXES as u32;
+pub(crate) const MAILBOXES: u32 = sizes::MAILBOXES as u32;
 
 // The queue of the waiters at mailbox 0.
 const FIRST_QUEUE: u32 = sizes::AT_MAILBOXES as u32;
+
+// The queue of the waiters at mailbox m, or past the last one at that which m wraps to: the sum may not wrap for any m.
+pub(crate) fn waiters_at_mailbox(m: u32) -> u32
+    ensures { result ≡ at_mailbox (m % mailboxes) }
+{
+    FIRST_QUEUE + m % MAILBOXES
+}
 
 // What a mailbox does with one message more: it has room for it, it refuses it, or it loses its oldest one for it.
 #[derive(Clone, Copy, PartialEq, Eq)]
@@ -22,7 +29,7 @@ pub(crate) enum Fullness {
 }
 
 impl Kernel {
-    // Whether mailbox m holds as many messages as it takes.
+    // Whether mailbox m holds as many messages as it takes. Not inlined: its frame would be added to that of send, and a call's stack is bounded.
     #[inline(never)]
     fn is_full(self, m: u32) -> bool
         ensures { result ≡ is_full_at self m }
@@ -52,11 +59,12 @@ impl Kernel {
         }
     }
 
-    // Whether mailbox m, which is one of those that there are, has messages or waiters.
+    // Whether mailbox m has messages or waiters. It is asked of any m, before the verdict, which looks at it only where there is such a mailbox;
+    // past the last one there are no messages, and the waiters are those at the mailbox that m wraps to.
     fn is_busy(self, m: u32) -> bool
         ensures { result ≡ busy_at self m }
     {
-        !self.mail.is_empty_box(m) || self.procs.first(FIRST_QUEUE + m % MAILBOXES).0 < PROCESSES
+        !self.mail.is_empty_box(m) || self.procs.first(waiters_at_mailbox(m)).0 < PROCESSES
     }
 
     pub fn mailbox(self, m: u32, capacity: u32, mode: u32) -> Done
@@ -69,6 +77,6 @@ impl Kernel {
         let next = self
             .settings
             .allotted(m, (capacity % 256) as u8, (mode % 256) as u8);
-        self.with_settings(next).answer(0, 0)
+        self.with_settings(next).answer(DONE, 0)
     }
 }

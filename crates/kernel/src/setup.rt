@@ -6,6 +6,7 @@ ghost use Rattle.plain.specs.State.{usual};
 ghost use Rattle.kernel.specs.Holds.{named};
 
 use crate::Settings;
+use sizes::REFUSING;
 use tables::set_entry;
 
 const USUAL_SLICE: u8 = sizes::USUAL_SLICE as u8;
@@ -13,14 +14,14 @@ const USUAL_SLICE: u8 = sizes::USUAL_SLICE as u8;
 const USUAL_CAPACITY: u8 = sizes::USUAL_CAPACITY as u8;
 
 impl Settings {
-    // A slice is named, and nothing else.
+    /// A slice is named, and nothing else.
     pub fn of_slice(slice: u8) -> Settings
         ensures { named result ≡ slice_of slice }
     {
         Settings {
             slice,
             capacity: [USUAL_CAPACITY; sizes::MAILBOXES],
-            mode: [0; sizes::MAILBOXES],
+            mode: [REFUSING; sizes::MAILBOXES],
         }
     }
 

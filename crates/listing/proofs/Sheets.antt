@@ -13,7 +13,7 @@ use Rattle.kernel.proofs.Judging.{runner_is, refused_call, accepted_call, judged
 use Rattle.kernel.specs.Judged.{Judged, refused_with}
 use Rattle.promise.specs.Promise.{Asks}
 use Rattle.kernel.specs.Promise.{Promised, said}
-use Rattle.kernel.specs.declared.Answer.{Answer}
+use Rattle.verdicts.specs.declared.Answer.{Answer}
 use Rattle.kernel.specs.declared.Kernel.{Kernel}
 use Rattle.verdicts.specs.Chain.{Verdict}
 use Rattle.plain_laws.proofs.Refusals.{Proper}

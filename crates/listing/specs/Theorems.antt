@@ -5,7 +5,7 @@ use Rattle.plain.specs.Listing as Plain
 use Rattle.plain_laws.specs.History.{is_refusal}
 use Rattle.promise.specs.Asked.{Anywhere}
 use Rattle.kernel.specs.Promise.{said}
-use Rattle.kernel.specs.declared.Answer.{Answer}
+use Rattle.verdicts.specs.declared.Answer.{Answer}
 use Rattle.board.specs.Area.{Lies}
 use Rattle.rows.specs.declared.Row.{Row}
 use Rattle.listing.specs.Listed.{Tabled, Lists}

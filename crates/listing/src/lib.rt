@@ -11,7 +11,7 @@ use kernel::{Answer, Kernel};
 use rows::Row;
 use verdicts::Refusal;
 
-// What is listed of a state, by value: the answer, and the rows; none where the listing is refused.
+/// What is listed of a state, by value: the answer, and the rows; none where the listing is refused.
 #[derive(Clone, Copy)]
 pub struct Sheet {
     pub answer: Answer,
@@ -25,21 +25,22 @@ fn judge(k: Kernel, rows: usize) -> Result<(), Refusal>
     verdicts::on_listing(k.is_sound(), rows)
 }
 
-// The rows of the state in an area, for a table of so many rows.
+/// The rows of the state in an area, for a table of so many rows.
 pub fn sheet_of(state: &[u8], room: usize) -> Sheet
     ensures { Sheets state.now room result }
 {
     let k = image::read(state);
     let v = judge(k, room);
     let answer = k.answer_found(v);
-    if v.is_err() {
-        return Sheet { answer, rows: None };
-    }
-    let rows = Some(rows::table_of(k).rows);
+    let rows = match v {
+        Ok(()) => Some(rows::table_of(k).rows),
+        Err(_) => None,
+    };
     Sheet { answer, rows }
 }
 
-// Row i of the table becomes the row of process i; later rows stay, and all do where the listing is refused.
+/// The form and the name are C's here too, by which docs and tests know the call: csengadrul has an own of that name.
+/// Row i of the table becomes the row of process i; later rows stay, and all do where the listing is refused.
 #[unsafe(no_mangle)]
 pub extern "C" fn csengadrul_listing(state: &[u8], rows: &mut [Row]) -> Answer
     ensures { Lists rows.old rows.new state.now result }

@@ -2,29 +2,17 @@
 -- Assumes nothing.
 use Prim.Native.Nat.{ℕ, zero, suc, ◌+◌, ◌*◌, ◌≤◌, ◌<◌}
 use mathlib.Core.Path.{◌≡◌, refl, sym, ap, ◌∙◌, subst, fun_ext}
-use mathlib.Core.Bool.{Bool, true, false, ◌&&◌, ◌||◌, true≢false}
+use mathlib.Core.Bool.{Bool, true, false, true≢false}
 use mathlib.Core.Logic.{◌≢◌, ◌⊎◌, inl, inr, ⊎_elim}
 use mathlib.Core.List.{List, [], ◌∷◌, ◌++◌}
 use native.Mathlib.Omega.{arith}
 use lib.ListN.{length, get_or, set, replicate, length-set, length-replicate}
 use lib.Seq.{get_or-set_same, get_or-set_other, ext_get_or}
 use lib.Dec.{leb, eqb}
-use borrow.Author.Tests.{leb-true, leb-false, eqb-true, eqb-false, eq-eqb, ne_eqb}
+use borrow.Author.Tests.{leb-true, leb-false, eq-eqb, ne_eqb}
 use Rattle.std.specs.Prelude.{if◌then◌else◌}
+use Rattle.std.proofs.lemmas.Bool.{cases_Bool, cases_eq}
 use Rattle.lists.specs.Lists.{put, someone, one, total, occurs, without, ahead, lowest, Entries}
-
--- a test has two outcomes, and each is known as an equation
-pub either : (t : Bool) → (t ≡ true) ⊎ (t ≡ false)
-either true = inl refl
-either false = inr refl
-
-pub or_false : (a b : Bool) → (a || b) ≡ false → (a ≡ false) × (b ≡ false)
-or_false true b e = absurd (true≢false e)
-or_false false b e = (refl, e)
-
-pub both_true : (a b : Bool) → (a && b) ≡ true → (a ≡ true) × (b ≡ true)
-both_true true b e = (refl, e)
-both_true false b e = absurd (true≢false (sym e))
 
 -- a list in which is nobody
 pub nobody : {A : Type 0} (l : List A) → someone l ≡ false → l ≡ []
@@ -35,14 +23,6 @@ nobody (x ∷ l) e = absurd (true≢false e)
 pub first_of : {A : Type 0} (l : List A) → someone l ≡ true → (x : A) × (r : List A) × (l ≡ x ∷ r)
 first_of [] e = absurd (true≢false (sym e))
 first_of (x ∷ l) e = (x, l, refl)
-
--- two numbers are the same or not
-pub same? : (a b : ℕ) → (a ≡ b) ⊎ (a ≢ b)
-same? a b = go (eqb a b) refl
-  where
-    go : (t : Bool) → eqb a b ≡ t → (a ≡ b) ⊎ (a ≢ b)
-    go true e = inl (eqb-true a b e)
-    go false e = inr (eqb-false a b e)
 
 pub le? : (a b : ℕ) → (a ≤ b) ⊎ (b < a)
 le? a b = go (leb a b) refl
@@ -60,7 +40,7 @@ module _ {A : Type 0} where
 
   -- what holds of v at i, and of f elsewhere, holds of f with v at i
   pub put_cases : (P : A → Type 0) (f : ℕ → A) (i : ℕ) (v : A) (j : ℕ) → (j ≡ i → P v) → (j ≢ i → P (f j)) → P (put f i v j)
-  put_cases P f i v j a b = ⊎_elim (λ e. rw (eq-eqb j i e) (a e)) (λ n. rw (ne_eqb j i n) (b n)) (same? j i)
+  put_cases P f i v j a b = ⊎_elim (λ e. rw (eq-eqb j i e) (a e)) (λ n. rw (ne_eqb j i n) (b n)) (cases_eq j i)
 
 pub one_same : (x : ℕ) → one x x ≡ 1
 one_same x = rw (eq-eqb x x refl)
@@ -88,19 +68,19 @@ pub occurs-without-same : (p : ℕ) (l : List ℕ) → occurs p (without p l) �
 occurs-without-same p [] = refl
 occurs-without-same p (x ∷ l) =
     let ih = occurs-without-same p l in
-    ⊎_elim (λ e. rw (eq-eqb x p e) ih) (λ n. rw (ne_eqb x p n) (rw (ne_eqb x p n) (omega arith))) (same? x p)
+    ⊎_elim (λ e. rw (eq-eqb x p e) ih) (λ n. rw (ne_eqb x p n) (rw (ne_eqb x p n) (omega arith))) (cases_eq x p)
 
 pub occurs-without_other : (x p : ℕ) (l : List ℕ) → x ≢ p → occurs x (without p l) ≡ occurs x l
 occurs-without_other x p [] n = refl
 occurs-without_other x p (y ∷ l) n =
     let ih = occurs-without_other x p l n in
-    ⊎_elim (λ e. rw (eq-eqb y p e) (omega (arith, one_other y x (λ d. n (sym d ∙ e))))) (λ m. rw (ne_eqb y p m) (omega arith)) (same? y p)
+    ⊎_elim (λ e. rw (eq-eqb y p e) (omega (arith, one_other y x (λ d. n (sym d ∙ e))))) (λ m. rw (ne_eqb y p m) (omega arith)) (cases_eq y p)
 
 pub length_without : (p : ℕ) (l : List ℕ) → length (without p l) ≤ length l
 length_without p [] = omega arith
 length_without p (x ∷ l) =
     let ih = length_without p l in
-    ⊎_elim (λ e. rw (eq-eqb x p e) (omega arith)) (λ n. rw (ne_eqb x p n) (omega arith)) (same? x p)
+    ⊎_elim (λ e. rw (eq-eqb x p e) (omega arith)) (λ n. rw (ne_eqb x p n) (omega arith)) (cases_eq x p)
 
 -- ---- lowest
 
@@ -122,8 +102,8 @@ unfolding lowest
 lowest_most i zero p t a b e = absurd (omega arith)
 lowest_most i (suc n) p t a b e = ⊎_elim
     (λ (y : t i ≡ true). rw y a)
-    (λ (x : t i ≡ false). rw x (lowest_most (suc i) n p t (⊎_elim (λ (d : i ≡ p). absurd (true≢false (sym e ∙ (ap t (sym d) ∙ x)))) (λ d. omega arith) (same? i p)) (omega arith) e))
-    (either (t i))
+    (λ (x : t i ≡ false). rw x (lowest_most (suc i) n p t (⊎_elim (λ (d : i ≡ p). absurd (true≢false (sym e ∙ (ap t (sym d) ∙ x)))) (λ d. omega arith) (cases_eq i p)) (omega arith) e))
+    (cases_Bool (t i))
 
 -- the lowest number is known by passing where none below it does
 pub lowest_is : (i n p : ℕ) (t : ℕ → Bool) → i ≤ p → p < i + n → t p ≡ true → ((j : ℕ) → i ≤ j → j < p → t j ≡ false) → lowest i n t ≡ p
@@ -132,7 +112,7 @@ lowest_is i zero p t a b e h = absurd (omega arith)
 lowest_is i (suc n) p t a b e h = ⊎_elim
     (λ (d : i ≡ p). rw (ap t d ∙ e) d)
     (λ (d : i ≢ p). rw (h i (omega arith) (omega arith)) (lowest_is (suc i) n p t (omega arith) (omega arith) e (λ j x y. h j (omega arith) y)))
-    (same? i p)
+    (cases_eq i p)
 
 pub lowest_none : (i n : ℕ) (t : ℕ → Bool) → ((j : ℕ) → i ≤ j → j < i + n → t j ≡ false) → lowest i n t ≡ i + n
 unfolding lowest
@@ -166,7 +146,7 @@ pub total_lt : (n : ℕ) (f g : ℕ → ℕ) (i : ℕ) → i < n → ((j : ℕ) 
 unfolding total
 total_lt zero f g i b h l = absurd (omega arith)
 total_lt (suc n) f g i b h l =
-    ⊎_elim (λ (e : i ≡ n). omega (arith, total-le n f g h, subst (λ (j : ℕ). f j < g j) e l)) (λ (d : i ≢ n). omega (arith, h n, total_lt n f g i (omega arith) h l)) (same? i n)
+    ⊎_elim (λ (e : i ≡ n). omega (arith, total-le n f g h, subst (λ (j : ℕ). f j < g j) e l)) (λ (d : i ≢ n). omega (arith, h n, total_lt n f g i (omega arith) h l)) (cases_eq i n)
 
 pub total_times : (k n : ℕ) (f g : ℕ → ℕ) → ((i : ℕ) → f i ≤ k * g i) → total n f ≤ k * total n g
 unfolding total
@@ -190,15 +170,15 @@ total-ones (suc k) g a = omega (arith, a k, total-ones k g a)
 pub total-at : (n : ℕ) (f : ℕ → ℕ) (i : ℕ) → i < n → f i ≤ total n f
 unfolding total
 total-at zero f i h = omega arith
-total-at (suc n) f i h = ⊎_elim (λ e. rw e (omega arith)) (λ d. omega (arith, total-at n f i (omega arith))) (same? i n)
+total-at (suc n) f i h = ⊎_elim (λ e. rw e (omega arith)) (λ d. omega (arith, total-at n f i (omega arith))) (cases_eq i n)
 
 pub total_two : (n : ℕ) (f : ℕ → ℕ) (i j : ℕ) → i < n → j < n → i ≢ j → f i + f j ≤ total n f
 unfolding total
 total_two zero f i j h k d = omega arith
 total_two (suc n) f i j h k d =
     ⊎_elim (λ e. rw e (omega (arith, total-at n f j (omega arith))))
-    (λ a. ⊎_elim (λ e. rw e (omega (arith, total-at n f i (omega arith)))) (λ b. omega (arith, total_two n f i j (omega arith) (omega arith) d)) (same? j n))
-    (same? i n)
+    (λ a. ⊎_elim (λ e. rw e (omega (arith, total-at n f i (omega arith)))) (λ b. omega (arith, total_two n f i j (omega arith) (omega arith) d)) (cases_eq j n))
+    (cases_eq i n)
 
 -- one entry changed
 pub total_change : (n : ℕ) (f g : ℕ → ℕ) (i : ℕ) → i < n → ((j : ℕ) → j ≢ i → g j ≡ f j) → total n g + f i ≡ total n f + g i
@@ -206,7 +186,7 @@ unfolding total
 total_change zero f g i h k = omega arith
 total_change (suc n) f g i h k =
     ⊎_elim (λ e. let same : total n g ≡ total n f = total-same n g f (λ j b. k j (omega arith)) in rw e (omega arith))
-    (λ d. omega (arith, k n (λ b. d (sym b)), total_change n f g i (omega arith) k)) (same? i n)
+    (λ d. omega (arith, k n (λ b. d (sym b)), total_change n f g i (omega arith) k)) (cases_eq i n)
 
 -- ---- how long a list can be
 
@@ -240,7 +220,7 @@ without-append p [] r = refl
 without-append p (x ∷ l) r = ⊎_elim
     (λ (e : x ≡ p). rw (eq-eqb x p e) (without-append p l r))
     (λ (d : x ≢ p). rw (ne_eqb x p d) (ap (λ (y : List ℕ). x ∷ y) (without-append p l r)))
-    (same? x p)
+    (cases_eq x p)
 
 -- one who stands in a list has a part before it and a part after it
 pub record Stands (p : ℕ) (l : List ℕ) : Type 0 where
@@ -256,7 +236,7 @@ stands p (x ∷ l) o = ⊎_elim
     (λ (d : x ≢ p).
     let r = stands p l (omega (arith, one_other x p d)) in
     record { before = x ∷ r.before; behind = r.behind; whole = ap (λ (y : List ℕ). x ∷ y) r.whole; first_there = omega (arith, r.first_there, one_other x p d) })
-    (same? x p)
+    (cases_eq x p)
 
 -- as many are ahead of p as stand before it
 pub ahead_split : (p : ℕ) (l r : List ℕ) → occurs p l ≡ 0 → ahead p (l ++ p ∷ r) ≡ length l
@@ -264,7 +244,7 @@ ahead_split p [] r n = rw (eq-eqb p p refl)
 ahead_split p (x ∷ l) r n = ⊎_elim
     (λ (e : x ≡ p). absurd (omega (arith, n, subst (λ (y : ℕ). one y p ≡ 1) (sym e) (one_same p))))
     (λ (d : x ≢ p). rw (ne_eqb x p d) (ap suc (ahead_split p l r (omega (arith, n)))))
-    (same? x p)
+    (cases_eq x p)
 
 -- nobody who comes behind is ahead of p, and nobody more once another has left
 pub ahead_rear : (p : ℕ) (l r : List ℕ) → 1 ≤ occurs p l → ahead p (l ++ r) ≡ ahead p l
@@ -272,7 +252,7 @@ ahead_rear p [] r o = absurd (omega arith)
 ahead_rear p (x ∷ l) r o = ⊎_elim
     (λ (e : x ≡ p). rw (eq-eqb x p e) refl)
     (λ (d : x ≢ p). rw (ne_eqb x p d) (ap suc (ahead_rear p l r (omega (arith, one_other x p d)))))
-    (same? x p)
+    (cases_eq x p)
 
 pub ahead-without : (p y : ℕ) (l : List ℕ) → y ≢ p → ahead p (without y l) ≤ ahead p l
 ahead-without p y [] n = omega arith
@@ -281,15 +261,15 @@ ahead-without p y (x ∷ l) n = ⊎_elim
     (λ (d : x ≢ y). rw (ne_eqb x y d) (⊎_elim
     (λ (e : x ≡ p). rw (eq-eqb x p e) (omega arith))
     (λ (b : x ≢ p). rw (ne_eqb x p b) (omega (arith, ahead-without p y l n)))
-    (same? x p)))
-    (same? x y)
+    (cases_eq x p)))
+    (cases_eq x y)
 
 -- p, who stands in queue q and nowhere else, is taken out of q, and no other queue changes
 pub taken_out : (p q : ℕ) (f : ℕ → List ℕ) (a b : List ℕ) → f q ≡ a ++ p ∷ b → occurs p a ≡ 0 → occurs p b ≡ 0 → ((i : ℕ) → i ≢ q → occurs p (f i) ≡ 0)
     → (λ i. without p (f i)) ≡ put f q (a ++ b)
 taken_out p q f a b e n m away = fun_ext (λ i. ⊎_elim
     (λ (d : i ≡ q). rw (d, put_same f q (a ++ b), e) (without_split p a b n m))
-    (λ (d : i ≢ q). without_absent p (f i) (away i d) ∙ sym (put_other f q (a ++ b) i d)) (same? i q))
+    (λ (d : i ≢ q). without_absent p (f i) (away i d) ∙ sym (put_other f q (a ++ b) i d)) (cases_eq i q))
 
 -- ---- zeros
 

@@ -9,7 +9,8 @@ use native.Mathlib.Omega.{arith}
 use lib.ListN.{length, take, length-append}
 use Rattle.std.specs.Prelude.{if◌then◌else◌}
 use Rattle.lists.specs.Lists.{one, occurs, those}
-use Rattle.lists.proofs.Laws.{same?, one_same, one_other, one-le, occurs-append, Stands, stands}
+use Rattle.std.proofs.lemmas.Bool.{cases_eq}
+use Rattle.lists.proofs.Laws.{one_same, one_other, one-le, occurs-append, Stands, stands}
 
 module _ (b : ℕ) where
   -- i stands before the others, if it passes
@@ -47,7 +48,7 @@ module _ (b : ℕ) where
   those-passes i (suc n) t h k e = ⊎_elim
       (λ (d : i ≡ b). let z : t i ≡ true = ap t d ∙ e in rw z (omega (arith, subst (λ (x : ℕ). one i x ≡ 1) d (one_same i), those_below (suc i) n t (omega arith))))
       (λ (d : i ≢ b). omega (arith, adds (t i) i (those (suc i) n t), adds_none (t i) i (λ z. d), those-passes (suc i) n t (omega arith) (omega arith) e))
-      (same? i b)
+      (cases_eq i b)
 
   pub those_once : (i n : ℕ) (t : ℕ → Bool) → occurs b (those i n t) ≤ 1
   unfolding those
@@ -55,7 +56,7 @@ module _ (b : ℕ) where
   those_once i (suc n) t = ⊎_elim
       (λ (d : i ≡ b). omega (arith, adds (t i) i (those (suc i) n t), adds_most (t i) i, those_below (suc i) n t (omega arith)))
       (λ (d : i ≢ b). omega (arith, adds (t i) i (those (suc i) n t), adds_none (t i) i (λ z. d), those_once (suc i) n t))
-      (same? i b)
+      (cases_eq i b)
 
   pub take-occurs : (n : ℕ) (l : List ℕ) → occurs b (take n l) ≤ occurs b l
   take-occurs zero l = omega arith

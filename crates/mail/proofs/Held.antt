@@ -8,7 +8,8 @@ use mathlib.Core.Option.{Option, none, some}
 use native.Mathlib.Omega.{arith}
 use lib.ListN.{length, get_or}
 use Rattle.lists.specs.Lists.{put, one, occurs}
-use Rattle.lists.proofs.Laws.{same?, put_same, put_other, one_same, one_other, occurs-append, total_zero}
+use Rattle.std.proofs.lemmas.Bool.{cases_eq}
+use Rattle.lists.proofs.Laws.{put_same, put_other, one_same, one_other, occurs-append, total_zero}
 use Rattle.plain.specs.Pages.{needed}
 use Rattle.plain.specs.Sizes.{processes, mailboxes}
 use Rattle.plain.specs.State.{Message, Each, InHand, buffers_of, in_hand, held}
@@ -65,7 +66,7 @@ module _ (box : ℕ → List Message) (hand : ℕ → Option Message) (b : ℕ) 
           queued = λ i. ⊎_elim
               (λ (e : i ≡ m). rw e (omega arith))
               (λ (d : i ≢ m). subst (λ (a : List Message). occurs b (firsts a) ≡ 0) (put_other box m l i d) (z.queued i))
-              (same? i m);
+              (cases_eq i m);
           all_in_hands = z.all_in_hands;
         },
         λ e. omega (arith, subst (λ (y : ℕ). one y b ≡ 1) e (one_same b)),
@@ -77,7 +78,7 @@ module _ (box : ℕ → List Message) (hand : ℕ → Option Message) (b : ℕ) 
     queued = λ i. ⊎_elim
         (λ (c : i ≡ m). rw (c, e) (omega (arith, one_other (first_of x) b (λ y. d (sym y)), subst (λ (a : List Message). occurs b (firsts a) ≡ 0) (put_same box m l) (z.queued m))))
         (λ (c : i ≢ m). subst (λ (a : List Message). occurs b (firsts a) ≡ 0) (put_other box m l i c) (z.queued i))
-        (same? i m);
+        (cases_eq i m);
     all_in_hands = z.all_in_hands;
   }
 
@@ -89,7 +90,7 @@ module _ (box : ℕ → List Message) (hand : ℕ → Option Message) (b : ℕ) 
       all_in_hands = λ i. ⊎_elim
           (λ (c : i ≡ p). rw (c, e) refl)
           (λ (c : i ≢ p). subst (λ (a : Option Message). occurs b (first_in a) ≡ 0) (put_other hand p (some x) i c) (z.all_in_hands i))
-          (same? i p);
+          (cases_eq i p);
     },
     λ c. omega (arith, subst (λ (y : ℕ). one y b ≡ 1) c (one_same b), subst (λ (a : Option Message). occurs b (first_in a) ≡ 0) (put_same hand p (some x)) (z.all_in_hands p)),
   )
@@ -101,5 +102,5 @@ module _ (box : ℕ → List Message) (hand : ℕ → Option Message) (b : ℕ) 
     all_in_hands = λ i. ⊎_elim
         (λ (c : i ≡ p). rw (c, e) (omega (arith, one_other (first_of x) b (λ y. d (sym y)))))
         (λ (c : i ≢ p). subst (λ (a : Option Message). occurs b (first_in a) ≡ 0) (put_other hand p none i c) (z.all_in_hands i))
-        (same? i p);
+        (cases_eq i p);
   }

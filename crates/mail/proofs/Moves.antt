@@ -14,7 +14,8 @@ use borrow.Author.Tests.{eq-eqb, ne_eqb, lt-ltb, le-ltb}
 use Rattle.std.specs.Prelude.{if◌then◌else◌}
 use Rattle.lists.specs.Lists.{put, occurs}
 use Rattle.lists.proofs.Laws as Laws
-use Rattle.lists.proofs.Laws.{same?, le?, put_cases}
+use Rattle.std.proofs.lemmas.Bool.{cases_eq}
+use Rattle.lists.proofs.Laws.{le?, put_cases}
 use Rattle.bits.specs.Word.{width, word, bits}
 use Rattle.bits.proofs.Words.{word_same}
 use Rattle.rings.specs.Ring.{Rings, Absent}
@@ -210,7 +211,7 @@ module _ {k : Numbers} {box : ℕ → List Message} {hand : ℕ → Option Messa
     zeros-left i f = ⊎_elim
         (λ (e : i ≡ first_of x). rw e (get_or-set_same k.length (first_of x) 0 0 (omega (arith, K.lengths_long, lies_below (first_of x) (first_in_lem k.length k.chain had)))))
         (λ (d : i ≢ first_of x). get_or-set_other k.length (first_of x) i 0 0 d ∙ K.no_lengths i (f d))
-        (same? i (first_of x))
+        (cases_eq i (first_of x))
 
     alone-left : (i : ℕ) → i < buffers → held box' hand' i ≡ 0 → after links_left i ≡ i
     alone-left i h z = ⊎_elim

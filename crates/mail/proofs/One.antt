@@ -9,7 +9,8 @@ use native.Mathlib.Omega.{arith}
 use lib.ListN.{get_or}
 use lib.Seq.{ext_get_or}
 use Rattle.lists.specs.Lists.{occurs}
-use Rattle.lists.proofs.Laws.{same?, le?, one_other, occurs-append, total_zero}
+use Rattle.std.proofs.lemmas.Bool.{cases_eq}
+use Rattle.lists.proofs.Laws.{le?, one_other, occurs-append, total_zero}
 use Rattle.rings.proofs.Laws.{found, one_table}
 use Rattle.rings.proofs.Units.{known}
 use Rattle.chains.specs.Led.{after}
@@ -28,7 +29,7 @@ module _ (t u c d : List ℕ) (b : ℕ) where
   agree_first x h g o = ⊎_elim
       (λ (e : first_of x ≡ b). rw (← e) (h.long ∙ sym g.long))
       (λ (e : first_of x ≢ b). absurd (omega (arith, one_other (first_of x) b e)))
-      (same? (first_of x) b)
+      (cases_eq (first_of x) b)
 
   agree_queued : (l : List Message) → Each (Has t c) l → Each (Has u d) l → 1 ≤ occurs b (firsts l) → get_or t b 0 ≡ get_or u b 0
   agree_queued [] h g o = absurd (omega arith)

@@ -1,6 +1,8 @@
 -- What the struct becomes as messages are delivered, dropped, fetched and let go, and what is read off it, in its numbers.
 -- Total: a mailbox, process or buffer number past the last leaves what it would change as it is. Assumes nothing.
-use Rattle.std.specs.Prelude.{ℕ, Bool, true, false, List, length, get_or, set, replicate, ltb, if◌then◌else◌}
+use Rattle.std.specs.Prelude.{ℕ, Bool, true, false, List, length, get_or, set, replicate, ltb, if◌then◌else◌, Option, Some, None}
+use Rattle.sizes.specs.declared.Bid.{Bid}
+use Rattle.boxes.specs.Box.{num}
 use Rattle.lists.specs.Lists.{put, lowest, those}
 use Rattle.bits.specs.Word.{width, word, bits}
 use Rattle.rings.specs.Ring.{Tables}
@@ -79,7 +81,7 @@ unfoldable pub freed : Numbers → ℕ → Numbers
 freed k b = let l : List ℕ = run k.chain (needed (length_at k b)) b in stocked k b 0 (alone k.chain l) l true
 
 -- process p has buffer b in hand, or has an empty hand
-abbrev holding : Numbers → ℕ → ℕ → Bool → Numbers
+abbrev pub holding : Numbers → ℕ → ℕ → Bool → Numbers
 holding k p b full = record {
   tables = k.tables;
   hand = set k.hand p b;
@@ -94,6 +96,11 @@ given k p b = holding k p b true
 
 unfoldable pub emptied : Numbers → ℕ → Numbers
 emptied k p = holding k p 0 false
+
+-- process p has the message that begins in a buffer in hand, or an empty hand
+unfoldable pub set_in_hand : Numbers → ℕ → Option Bid → Numbers
+set_in_hand k p None = emptied k p
+set_in_hand k p (Some b) = given k p (num b)
 
 -- the mailboxes' links are t
 abbrev pub relinked : Numbers → Tables → Numbers

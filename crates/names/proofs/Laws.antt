@@ -9,7 +9,8 @@ use lib.Dec.{eqb}
 use lib.ListN.{length, get_or-eq_default}
 use borrow.Author.Tests.{eq-eqb, ne_eqb}
 use Rattle.lists.specs.Lists.{put}
-use Rattle.lists.proofs.Laws.{same?, set_entries}
+use Rattle.std.proofs.lemmas.Bool.{cases_eq}
+use Rattle.lists.proofs.Laws.{set_entries}
 use Rattle.plain.specs.Names.{rounds, raised, Births}
 use Rattle.plain.specs.Sizes.{processes}
 use Rattle.rings.specs.Decides.{Decides}
@@ -28,4 +29,4 @@ pub null_unborn : (t : List ℕ) → length t ≡ processes → ((p : ℕ) → c
 null_unborn t long low = ⊎_elim
     (λ (e : count_in t 0 ≡ 0). rw (eq-eqb (count_in t 0) 0 e) (record { null = e; most = low; no_more = λ p h. get_or-eq_default t 0 (omega arith) }))
     (λ d. rw (ne_eqb (count_in t 0) 0 d) (λ (k : Births (count_in t)). d k.null))
-    (same? (count_in t 0) 0)
+    (cases_eq (count_in t 0) 0)

@@ -14,21 +14,21 @@ const PROCESSES: u32 = sizes::PROCESSES as u32;
 
 const BIRTHS: u32 = sizes::BIRTHS as u32;
 
-// The number in a name.
+/// The number in a name.
 pub fn bare(name: u32) -> u32
     ensures { result ≡ bare name }
 {
     name % BIRTHS
 }
 
-// The name of p.
+/// The name of p.
 pub fn name_of(births: [u8; sizes::PROCESSES], p: Pid) -> u32
     ensures { result ≡ name (count_in births) p.0 }
 {
     p.0 as u32 + BIRTHS * entry(&births, p.0 as usize, 0) as u32
 }
 
-// Whether a name is that of the number in it: what every call asks that takes a process.
+/// Whether a name is that of the number in it: what every call asks that takes a process.
 pub fn is_name(births: [u8; sizes::PROCESSES], name: u32) -> bool
     ensures { result ≡ names (count_in births) name }
 {
@@ -36,7 +36,7 @@ pub fn is_name(births: [u8; sizes::PROCESSES], name: u32) -> bool
     p < PROCESSES && name == name_of(births, Pid(p as u8))
 }
 
-// The counts after a birth of p.
+/// The counts after a birth of p.
 pub fn born(mut births: [u8; sizes::PROCESSES], p: Pid) -> [u8; sizes::PROCESSES]
     ensures { result ≡ born births p.0 }
 {
@@ -45,7 +45,7 @@ pub fn born(mut births: [u8; sizes::PROCESSES], p: Pid) -> [u8; sizes::PROCESSES
     births
 }
 
-// Whether these counts are sound: process 0 was never born. A byte is never over the highest count.
+/// Whether these counts are sound: process 0 was never born. A byte is never over the highest count.
 pub fn may_be_kept(births: [u8; sizes::PROCESSES]) -> bool
     ensures { Decides result (Births (count_in births)) }
 {

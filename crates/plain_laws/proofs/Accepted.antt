@@ -10,7 +10,8 @@ use mathlib.Core.Option.{some}
 use native.Mathlib.Omega.{arith}
 use lib.ListN.{length, length-append}
 use borrow.Author.Tests.{eq-eqb, ne_eqb}
-use Rattle.lists.proofs.Laws.{same?, put_same, put_other, put_cases}
+use Rattle.std.proofs.lemmas.Bool.{cases_eq}
+use Rattle.lists.proofs.Laws.{put_same, put_other, put_cases}
 use Rattle.lists.specs.Lists.{put}
 use Rattle.plain.specs.Sizes.{at_mailbox, at_semaphore}
 use Rattle.plain.specs.State.{Message, State}
@@ -40,7 +41,7 @@ alone s o a b e = record { code = a; settings = b; even = λ m. rw e (go m (is_d
 
 -- a call that is counted at mailbox i
 at-box : (i : ℕ) (s : State) (k : Kind) (o : Outcome) → Even i s k o → ((m : ℕ) → i ≢ m → Even m s k o) → (m : ℕ) → Even m s k o
-at-box i s k o here elsewhere m = ⊎_elim (λ (e : i ≡ m). subst (λ (j : ℕ). Even j s k o) e here) (λ d. elsewhere m d) (same? i m)
+at-box i s k o here elsewhere m = ⊎_elim (λ (e : i ≡ m). subst (λ (j : ℕ). Even j s k o) e here) (λ d. elsewhere m d) (cases_eq i m)
 
 -- mailbox i, which may have lost its oldest message, gets another one last, or its first waiter gets that
 delivers : (i : ℕ) (x : Message) (l : List ℕ) (s : State) → s.procs.queue (at_mailbox i) ≡ l → Accepts s (posts i) (done 0 (deliver i x l (relieved i s)))
@@ -70,7 +71,7 @@ delivers i x (w ∷ l) s e =
         (λ u. ⊎_elim
         (λ (d : m ≡ i). absurd (true≢false (sym u ∙ subst (λ (j : ℕ). overflows j s ≡ false) d z)))
         (λ (d : m ≢ i). rw (put_other s.box i _ m d) o)
-        (same? m i))
+        (cases_eq m i))
 
 -- the first message goes into the caller's hand, or the caller waits
 fetched : (i : ℕ) (l : List Message) (s : State) → s.box i ≡ l → Accepts s (fetches i) (fetch i l s)
@@ -82,7 +83,7 @@ fetched i (x ∷ l) s e = record {
   keeps = λ m y z o. ⊎_elim
       (λ (d : m ≡ i). rw (d, put_same s.box i l) (here y (subst (λ (j : ℕ). Memᴰ y (s.box j)) d o)))
       (λ (d : m ≢ i). inl (rw (put_other s.box i l m d) o))
-      (same? m i);
+      (cases_eq m i);
 }
   where
     here : (y : Message) → Memᴰ y (s.box i) → Memᴰ y l ⊎ ((p : ℕ) × (put s.hand (caller s) (some x) p ≡ some y))

@@ -9,7 +9,8 @@ use native.Mathlib.Omega.{arith}
 use lib.Dec.{eqb}
 use borrow.Author.Tests.{eq-eqb, ne_eqb}
 use Rattle.lists.specs.Lists.{put, one, occurs, without}
-use Rattle.lists.proofs.Laws.{same?, put_same, put_other, one_same, one_other, occurs-without-same}
+use Rattle.std.proofs.lemmas.Bool.{cases_eq}
+use Rattle.lists.proofs.Laws.{put_same, put_other, one_same, one_other, occurs-without-same}
 use Rattle.plain.specs.Sizes.{classes}
 use Rattle.plain.specs.State.{Procs, level}
 use Rattle.plain.specs.Runs.{choose, stand_down}
@@ -27,7 +28,7 @@ leads_front x p y l d = rw (ne_eqb y p d) refl
 pub leads_rear : (x p : ℕ) (l r : List ℕ) → 1 ≤ occurs p l → leads x p (l ++ r) ≡ leads x p l
 leads_rear x p [] r o = absurd (omega arith)
 leads_rear x p (y ∷ l) r o = ⊎_elim (λ e. rw (eq-eqb y p e) refl)
-    (λ (d : y ≢ p). rw (ne_eqb y p d) (ap (λ (t : Bool). eqb y x || t) (leads_rear x p l r (omega (arith, one_other y p d))))) (same? y p)
+    (λ (d : y ≢ p). rw (ne_eqb y p d) (ap (λ (t : Bool). eqb y x || t) (leads_rear x p l r (omega (arith, one_other y p d))))) (cases_eq y p)
 
 pub leads_in : (x p : ℕ) (l : List ℕ) → leads x p l ≡ true → 1 ≤ occurs x l
 leads_in x p [] e = absurd (true≢false (sym e))
@@ -36,8 +37,8 @@ leads_in x p (y ∷ l) e = ⊎_elim
     (λ (d : y ≢ x). ⊎_elim
     (λ (b : y ≡ p). absurd (true≢false (sym e ∙ rw (eq-eqb y p b) refl)))
     (λ (b : y ≢ p). omega (arith, leads_in x p l (sym (rw (ne_eqb y p b, ne_eqb y x d) refl) ∙ e)))
-    (same? y p))
-    (same? y x)
+    (cases_eq y p))
+    (cases_eq y x)
 
 or_right : (a b c : Bool) → (b ≡ true → c ≡ true) → (a || b) ≡ true → (a || c) ≡ true
 or_right true b c h e = refl
@@ -50,8 +51,8 @@ leads-without x p y (z ∷ l) d = ⊎_elim
     (λ (b : z ≢ y). rw (ne_eqb z y b) (⊎_elim
     (λ (i : z ≡ p). rw (eq-eqb z p i) (λ e. e))
     (λ (i : z ≢ p). rw (ne_eqb z p i) (or_right (eqb z x) (leads x p (without y l)) (leads x p l) (leads-without x p y l d)))
-    (same? z p)))
-    (same? z y)
+    (cases_eq z p)))
+    (cases_eq z y)
 
 -- who is ahead of p once y has left is another, and was ahead before
 pub left_behind : (x p y : ℕ) (l : List ℕ) → y ≢ p → leads x p (without y l) ≡ true → (x ≢ y) × (leads x p l ≡ true)
@@ -66,16 +67,16 @@ pub duty_on : (s : Procs) (p x : ℕ) → s.running ≢ 0 → level s s.running 
 duty_on s p x z c = ⊎_elim
     (λ (e : x ≡ s.running). rw (e, eq-eqb s.running s.running refl, ne_eqb s.running 0 z, eq-eqb (level s s.running) (level s p) c) refl)
     (λ (d : x ≢ s.running). rw (ne_eqb x s.running d, ne_eqb s.running x (λ e. d (sym e))) refl)
-    (same? x s.running)
+    (cases_eq x s.running)
 
 pub duty_off : (s : Procs) (p x : ℕ) → (s.running ≢ 0 → level s s.running ≢ level s p) → on_duty s p x ≡ false
 duty_off s p x h = ⊎_elim
     (λ (e : x ≡ s.running). rw (e, eq-eqb s.running s.running refl) (⊎_elim
     (λ (z : s.running ≡ 0). rw (eq-eqb s.running 0 z) refl)
     (λ (z : s.running ≢ 0). rw (ne_eqb s.running 0 z, ne_eqb (level s s.running) (level s p) (h z)) refl)
-    (same? s.running 0)))
+    (cases_eq s.running 0)))
     (λ (d : x ≢ s.running). rw (ne_eqb x s.running d) refl)
-    (same? x s.running)
+    (cases_eq x s.running)
 
 -- ---- settling: p runs, or it is ready as before, and the same are ahead of it
 
@@ -111,8 +112,8 @@ module _ (n p : ℕ) (s : Procs) (k : Seated n s) (o : Ready s p) where
         ready = subst (λ (a : List ℕ). 1 ≤ occurs p a) (sym there) o;
         same = λ x. rw (idle x, there, duty_off s p x (λ b. e)) refl;
       })
-      (same? (level s r) (level s p))))
-      (same? s.running 0)
+      (cases_eq (level s r) (level s p))))
+      (cases_eq s.running 0)
 
   choose_alike : s.running ≡ 0 → ((choose s).running ≡ p) ⊎ Alike p s (choose s)
   choose_alike z = ⊎_elim
@@ -141,8 +142,8 @@ module _ (n p : ℕ) (s : Procs) (k : Seated n s) (o : Ready s p) where
         ready = subst (λ (a : List ℕ). 1 ≤ occurs p a) (sym there) o;
         same = λ x. rw (duty_off s' p x (λ b i. e (sym own ∙ i)), there, duty_off s p x (λ b. absurd (b z))) refl;
       })
-      (same? pk.c (level s p))))
-      (same? pk.w p)))
+      (cases_eq pk.c (level s p))))
+      (cases_eq pk.w p)))
       (λ (rs : Rests classes s (choose s)). absurd (omega (arith, ap (occurs p) (rs.nobody (level s p) (k.in_class p)))))
       (choice s)
 

@@ -9,7 +9,8 @@ use native.Mathlib.Omega.{arith}
 use lib.Dec.{ltb, leb, eqb}
 use borrow.Author.Tests.{ltb-true, ltb-false, leb-false, eqb-true, eqb-false, eq-eqb, ne_eqb, not-false}
 use Rattle.lists.specs.Lists.{put, occurs, without, lowest}
-use Rattle.lists.proofs.Laws.{either, or_false, same?, put_same, put_other, put_cases, one_same, one_other, without_absent, taken_out, lowest-passes}
+use Rattle.std.proofs.lemmas.Bool.{cases_Bool, or_parts, cases_eq}
+use Rattle.lists.proofs.Laws.{put_same, put_other, put_cases, one_same, one_other, without_absent, taken_out, lowest-passes}
 use Rattle.plain.specs.Sizes.{processes, classes, queues}
 use Rattle.plain.specs.State.{Procs, State, level, run, lines, line, rank, left, places, unused, free_process}
 use Rattle.plain.specs.Names.{bare, names}
@@ -28,7 +29,7 @@ use Rattle.plain_laws.proofs.Frames.{slice_some, Nowhere, Nobody, rear_framed, c
 -- what holds of the state if the call is refused, and of the call's own result if it is not
 pub judged : (P : State → Type 0) (rs : List Refusal) (s : State) (o : Outcome) → P s → (Passed rs → P o.next) → P (judge rs s o).next
 judged P [] s o a b = b tt
-judged P (r ∷ rs) s o a b = ⊎_elim (λ e. rw e a) (λ e. rw e (judged P rs s o a (λ p. b (e, p)))) (either r.holds)
+judged P (r ∷ rs) s o a b = ⊎_elim (λ e. rw e a) (λ e. rw e (judged P rs s o a (λ p. b (e, p)))) (cases_Bool r.holds)
 
 -- where no refusal holds the call does what it does
 pub accepted : (rs : List Refusal) (s : State) (o : Outcome) → Passed rs → judge rs s o ≡ o
@@ -110,8 +111,8 @@ module _ (n p : ℕ) (s : Procs) (cls : (x : ℕ) → level s x < classes) (hi :
       (λ (z : s.running ≢ 0). rw (ne_eqb s.running 0 z) (⊎_elim
       (λ (e : ltb (level s s.running) c ≡ true). rw e (when_above z (ltb-true (level s s.running) c e)))
       (λ (e : ltb (level s s.running) c ≡ false). rw e (when_below z (ltb-false (level s s.running) c e)))
-      (either (ltb (level s s.running) c))))
-      (same? s.running 0)
+      (cases_Bool (ltb (level s s.running) c))))
+      (cases_eq s.running 0)
 
 -- ---- each call's own move, in a sound state
 
@@ -146,7 +147,7 @@ module _ (n : ℕ) (s : Procs) (k : Seated n s) (hi : Highest s) where
       (λ (d : s.running ≢ p). rw (ne_eqb s.running p d) (sym (settle_still (remove p s)
       (λ x. put_cases (λ (a : ℕ). a < classes) s.class p 0 x (λ e. omega arith) (λ b. k.in_class x))
       (λ i h up. ap (without p) (hi i h (λ z. subst (λ (a : ℕ). a < i) (put_other s.class p 0 s.running d) (up z)))))))
-      (same? s.running p)
+      (cases_eq s.running p)
 
   -- the runner goes to the rear of queue q, its own class's or where it waits
   pub wait_settles : (q : ℕ) → go_to n q s ≡ settle (to_rear q s.running (s.class s.running) n s)
@@ -158,8 +159,8 @@ module _ (n : ℕ) (s : Procs) (k : Seated n s) (hi : Highest s) where
 pub somebody : (n : ℕ) (s : State) → (no_process n s).holds ≡ false → (1 ≤ bare n) × (bare n < processes) × (1 ≤ places s.procs (bare n))
 somebody n s e =
     let p : ℕ = bare n in
-    let a = or_false (eqb p 0) (not (names s.births n) || unused s.procs p) e in
-    let b = or_false (not (names s.births n)) (unused s.procs p) a.1 in
+    let a = or_parts (eqb p 0) (not (names s.births n) || unused s.procs p) e in
+    let b = or_parts (not (names s.births n)) (unused s.procs p) a.1 in
     let zero? : p ≢ 0 = eqb-false p 0 a.0 in
     let place? : places s.procs p ≢ 0 = eqb-false (places s.procs p) 0 b.1 in
     (omega arith, (named s.births n (not-false (names s.births n) b.0)).0, omega arith)
@@ -220,7 +221,7 @@ module _ (s : State) (k : Sound s) where
   yields z = rw (rank-own s.procs.running s.procs) at (graded (s.procs.class s.procs.running) z (k.seated.in_class s.procs.running))
 
   pub grades : (c : ℕ) → s.procs.running ≢ 0 → c < classes → Calm 0 (regraded n c s.procs)
-  grades c z hc = ⊎_elim (λ e. rw e stayed) (λ e. rw e (graded c z hc)) (either (eqb c (s.procs.class s.procs.running)))
+  grades c z hc = ⊎_elim (λ e. rw e stayed) (λ e. rw e (graded c z hc)) (cases_Bool (eqb c (s.procs.class s.procs.running)))
 
   pub halted : (p : ℕ) → 1 ≤ p → Shifted n s.procs 0 Nowhere (λ x. x ≡ p) Nobody (halt p s.procs)
   halted p h =
@@ -247,4 +248,4 @@ module _ (s : State) (k : Sound s) where
       (λ (z : s.procs.running ≡ 0). rw (eq-eqb s.procs.running 0 z)
       (shift n s.procs 1 Nowhere Nobody Nobody s.procs s.procs (slice_some s k) k.seated (only (Moves.idle z)) (same_framed s.procs s.procs.ticks) (sym still)))
       (λ (z : s.procs.running ≢ 0). rw (ne_eqb s.procs.running 0 z) (spends (s.procs.ticks s.procs.running - 1) z refl))
-      (same? s.procs.running 0)
+      (cases_eq s.procs.running 0)

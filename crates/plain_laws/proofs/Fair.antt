@@ -2,7 +2,7 @@
 -- Assumes nothing.
 use Prim.Native.Nat.{ℕ, suc, ◌+◌, ◌*◌, ◌≤◌, ◌<◌}
 use mathlib.Core.Path.{◌≡◌, refl, sym, ap, ◌∙◌, subst}
-use mathlib.Core.Bool.{Bool, true, false, not, ◌&&◌, ◌||◌, or-true, and-false, true≢false}
+use mathlib.Core.Bool.{Bool, true, false, not, ◌&&◌, or-true, and-false, true≢false}
 use mathlib.Core.Logic.{◌≢◌, ◌⊎◌, inl, inr, ⊎_elim}
 use mathlib.Core.List.{List, [], ◌∷◌, ◌++◌}
 use native.Mathlib.Omega.{arith}
@@ -10,7 +10,8 @@ use lib.Dec.{eqb, leb}
 use borrow.Author.Tests.{eq-eqb, ne_eqb, eqb-true, lt-leb}
 use Rattle.std.specs.Prelude.{if◌then◌else◌}
 use Rattle.lists.specs.Lists.{put, occurs, without, total}
-use Rattle.lists.proofs.Laws.{either, or_false, both_true, same?, le?, put_same, put_other, put_cases, occurs-append, occurs-without_other, total-at, total-le, total_lt, total_times}
+use Rattle.std.proofs.lemmas.Bool.{or_cases, cases_Bool, or_parts, and_parts, cases_eq}
+use Rattle.lists.proofs.Laws.{le?, put_same, put_other, put_cases, occurs-append, occurs-without_other, total-at, total-le, total_lt, total_times}
 use Rattle.plain.specs.Sizes.{processes}
 use Rattle.plain.specs.State.{Procs, State, level, places}
 use Rattle.plain.specs.Calls.{Call, step}
@@ -26,15 +27,11 @@ use Rattle.plain_laws.proofs.Sound.{step_sound, step_moved}
 use Rattle.plain_laws.proofs.Rear.{Rejoins, rejoins}
 use Rattle.plain_laws.proofs.Ahead.{leads_rear, left_behind, duty_on, Alike, settle_alike}
 
-or_elim : (a b : Bool) → (a || b) ≡ true → (a ≡ true) ⊎ (b ≡ true)
-or_elim true b e = inl refl
-or_elim false b e = inr e
-
 -- who runs as one of p's class
 duty : (s : Procs) (p x : ℕ) → on_duty s p x ≡ true → (x ≡ s.running) × (x ≢ 0) × (level s x ≡ level s p)
 duty s p x e =
-    let a = both_true (eqb x s.running) (not (eqb x 0) && eqb (level s x) (level s p)) e in
-    let b = both_true (not (eqb x 0)) (eqb (level s x) (level s p)) a.1 in
+    let a = and_parts (eqb x s.running) (not (eqb x 0) && eqb (level s x) (level s p)) e in
+    let b = and_parts (not (eqb x 0)) (eqb (level s x) (level s p)) a.1 in
     (eqb-true x s.running a.0, (λ z. true≢false (sym b.0 ∙ ap not (eq-eqb x 0 z))), eqb-true (level s x) (level s p) b.1)
 
 -- p fares: it is ready as before, nobody new is ahead of it, and of those who are nobody has more ticks; the runner, if ahead, has fewer after a tick
@@ -70,7 +67,7 @@ module _ (n p : ℕ) (s : Procs) (k : Seated n s) (o : Ready s p) where
     ran x z b = ⊎_elim
         (λ (i : s.running ≡ y). absurd (z (b ∙ (run_is ∙ rw (eq-eqb s.running y i) refl))))
         (λ (i : s.running ≢ y). let w : x ≡ s.running = b ∙ (run_is ∙ rw (ne_eqb s.running y i) refl) in (w, λ g. i (sym w ∙ g)))
-        (same? s.running y)
+        (cases_eq s.running y)
 
     -- who is ahead of p is not y, and was ahead before
     was : (x : ℕ) → is_ahead m p x ≡ true → (x ≢ y) × (is_ahead s p x ≡ true)
@@ -83,7 +80,7 @@ module _ (n p : ℕ) (s : Procs) (k : Seated n s) (o : Ready s p) where
         (λ (b : leads x p (m.queue (level m p)) ≡ true).
         let w = behind x (subst (λ (i : ℕ). leads x p (m.queue i) ≡ true) p_class b) in
         (w.0, rw w.1 (or-true (on_duty s p x))))
-        (or_elim (on_duty m p x) (leads x p (m.queue (level m p))) a)
+        (or_cases (on_duty m p x) (leads x p (m.queue (level m p))) a)
 
     removed : (d : ℕ) → m.ticks ≡ put s.ticks y t → 1 ≤ occurs p (m.queue c) → (1 ≤ d → y ≡ s.running) → Fares d p s m
     removed d ticks-are there falls = record {
@@ -102,7 +99,7 @@ module _ (n p : ℕ) (s : Procs) (k : Seated n s) (o : Ready s p) where
         let rear-of : (to_rear q y e t s).queue c ≡ without y (s.queue c) ++ (y ∷ []) = ap (to_rear q y e t s).queue i ∙ (rear_there y e t s q ∙ ap (λ (j : ℕ). without y (s.queue j) ++ (y ∷ [])) (sym i)) in
         rw (rear-of, leads_rear x p (without y (s.queue c)) (y ∷ []) (omega (arith, occurs-without_other p y (s.queue c) (λ b. apart (sym b))))) (left_behind x p y (s.queue c) apart))
         (λ (i : c ≢ q). rw (rear_elsewhere y e t s q c i) (left_behind x p y (s.queue c) apart))
-        (same? c q)
+        (cases_eq c q)
 
     rear_fares : (d : ℕ) → (1 ≤ d → y ≡ s.running) → Fares d p s (to_rear q y e t s)
     rear_fares d falls =
@@ -113,7 +110,7 @@ module _ (n p : ℕ) (s : Procs) (k : Seated n s) (o : Ready s p) where
     rear_behind : is_ahead (to_rear q y e t s) p y ≡ false
     rear_behind = ⊎_elim
         (λ a. absurd ((was y e t (to_rear q y e t s) apart (unfold to_rear leave in refl) (unfold to_rear leave in refl) rear_leads y a).0 refl))
-        (λ a. a) (either (is_ahead (to_rear q y e t s) p y))
+        (λ a. a) (cases_Bool (is_ahead (to_rear q y e t s) p y))
 
   gone_fares : (y : ℕ) → y ≢ p → Fares 0 p s (leave y 0 0 s)
   unfolding leave
@@ -143,7 +140,7 @@ module _ (n p : ℕ) (s : Procs) (k : Seated n s) (o : Ready s p) where
   move_fares d m (again z) = inr (rear_fares (level s s.running) s.running (s.class s.running) n p_rests 1 (λ h. refl))
   move_fares d m (rear y e y₁ y₂ away he) = inr (rear_fares e y e n (λ i. omega (arith, away c (k.in_class p), subst (λ (x : ℕ). occurs x (s.queue c) ≡ 0) i (away c (k.in_class p)))) 0 (λ h. absurd (omega arith)))
   move_fares d m (pause q z h₅ hq) = inr (rear_fares q s.running (s.class s.running) n p_rests 0 (λ h. absurd (omega arith)))
-  move_fares d m (halt y y₁) = ⊎_elim (λ (e : y ≡ p). inl (subst (λ (x : ℕ). places (leave y 0 0 s) x ≡ 0) e (leave-gone y 0 0 s y₁))) (λ e. inr (gone_fares y e)) (same? y p)
+  move_fares d m (halt y y₁) = ⊎_elim (λ (e : y ≡ p). inl (subst (λ (x : ℕ). places (leave y 0 0 s) x ≡ 0) e (leave-gone y 0 0 s y₁))) (λ e. inr (gone_fares y e)) (cases_eq y p)
 
   -- and then who runs: p itself, or it fares
   settle_fares : (d : ℕ) (m : Procs) → Seated n m → Fares d p s m → ((settle m).running ≡ p) ⊎ Fares d p s (settle m)
@@ -154,7 +151,7 @@ module _ (n p : ℕ) (s : Procs) (k : Seated n s) (o : Ready s p) where
         rests = r;
         kept = λ x b. let w = f.kept x (sym (a.same x) ∙ b) in (w.0, subst (λ (g : ℕ → ℕ). g x ≤ s.ticks x) (sym a.ticks) w.1);
         spends = λ h b i. subst (λ (g : ℕ → ℕ). g s.running < s.ticks s.running) (sym a.ticks) (f.spends h b (sym (a.same s.running) ∙ i));
-      })) (same? (settle m).running p))
+      })) (cases_eq (settle m).running p))
       (settle_alike n p m km f.ready f.rests)
 
   -- ---- what those ahead still have
@@ -175,7 +172,7 @@ module _ (n p : ℕ) (s : Procs) (k : Seated n s) (o : Ready s p) where
   load_falls d s' f x = ⊎_elim
       (λ (e : is_ahead s' p x ≡ true). let w = f.kept x e in omega (arith, load-on s'.ticks s' x e, load-on s.ticks s x w.0, w.1))
       (λ (e : is_ahead s' p x ≡ false). rw e (omega arith))
-      (either (is_ahead s' p x))
+      (cases_Bool (is_ahead s' p x))
 
   -- a tick that falls while p's class runs is one of them
   sum_falls : (t : Bool) (s' : Procs) → Fares (as_one t) p s s'
@@ -187,17 +184,17 @@ module _ (n p : ℕ) (s : Procs) (k : Seated n s) (o : Ready s p) where
       let less : load s'.ticks s' s.running < load s.ticks s s.running = ⊎_elim
       (λ (a : is_ahead s' p s.running ≡ true). omega (arith, load-on s'.ticks s' s.running a, f.spends (omega arith) e a, w.1))
       (λ (a : is_ahead s' p s.running ≡ false). rw a (omega (arith, w.0, w.1)))
-      (either (is_ahead s' p s.running)) in
+      (cases_Bool (is_ahead s' p s.running)) in
       rw e (omega (arith, total_lt processes (load s'.ticks s') (load s.ticks s) s.running (runner_range n s k) (load_falls 1 s' f) less)))
       (λ (e : on_duty s p s.running ≡ false). rw e (omega (arith, total-le processes (load s'.ticks s') (load s.ticks s) (load_falls 1 s' f))))
-      (either (on_duty s p s.running))
+      (cases_Bool (on_duty s p s.running))
 
   tick_counts : (t : Bool) → as_one (t && on_duty s p s.running) ≤ total processes (load s.ticks s)
   tick_counts false = omega arith
   tick_counts true = ⊎_elim
       (λ (e : on_duty s p s.running ≡ true). let w = runner-load e in rw e (omega (arith, w.0, w.1, total-at processes (load s.ticks s) s.running (runner_range n s k))))
       (λ (e : on_duty s p s.running ≡ false). rw e (omega arith))
-      (either (on_duty s p s.running))
+      (cases_Bool (on_duty s p s.running))
 
   -- n ticks for each at most
   sum_bound : total processes (load s.ticks s) ≤ n * count_ahead s p
@@ -268,7 +265,7 @@ sees p s (c ∷ cs) k o =
     (λ (e : is_over s'.procs p ≡ true). omega (arith, over_sees_none p s' cs e, tick_counts n p s.procs k.seated o t))
     (λ (f : Fares (as_one t) p s.procs s'.procs). omega (arith, sum_falls n p s.procs k.seated o t s'.procs f, sees p s' cs (step_sound s k c) f.ready))
     (onward p s c k o) in
-    ⊎_elim (λ e. rw e (omega arith)) (λ e. rw e rest) (either (is_over s.procs p))
+    ⊎_elim (λ e. rw e (omega arith)) (λ e. rw e rest) (cases_Bool (is_over s.procs p))
 
 -- the first half
 few_ticks : (p : ℕ) (s : State) (cs : List Call) → Sound s → Ready s.procs p → ticks_seen p (moments s cs) ≤ s.settings.slice * count_ahead s.procs p
@@ -282,7 +279,7 @@ module _ (p : ℕ) (s : State) (c : Call) (k : Sound s) (o : Ready s.procs p) wh
 
   -- who is not ahead of p does not come to be
   stays_behind : Fares (as_one (is_tick (kind c))) p s.procs r' → (x : ℕ) → is_ahead s.procs p x ≡ false → is_ahead r' p x ≡ false
-  stays_behind f x a = ⊎_elim (λ e. absurd (true≢false (sym (f.kept x e).0 ∙ a))) (λ e. e) (either (is_ahead r' p x))
+  stays_behind f x a = ⊎_elim (λ e. absurd (true≢false (sym (f.kept x e).0 ∙ a))) (λ e. e) (cases_Bool (is_ahead r' p x))
 
   -- who joins the rear is not ahead of p
   joins_behind : is_over r' p ≡ false → (x : ℕ) → 1 ≤ occurs x (joined (moment s c (step s c))) → is_ahead r' p x ≡ false
@@ -309,7 +306,7 @@ module _ (p : ℕ) (s : State) (c : Call) (k : Sound s) (o : Ready s.procs p) wh
       go false i h = behind (rejoins s k c x i h)
 
 off_duty : (s : Procs) (p x : ℕ) → is_ahead s p x ≡ false → on_duty s p x ≡ false
-off_duty s p x a = (or_false (on_duty s p x) (leads x p (s.queue (level s p))) a).0
+off_duty s p x a = (or_parts (on_duty s p x) (leads x p (s.queue (level s p))) a).0
 
 nobody_passes : (x p : ℕ) (s : State) (cs : List Call) → Sound s → Ready s.procs p → is_ahead s.procs p x ≡ false → turns_before x p (moments s cs) ≡ 0
 unfolding turns_before moments
@@ -321,7 +318,7 @@ nobody_passes x p s (c ∷ cs) k o a =
     let still = stays_behind p s c k o f x a in
     ⊎_elim (λ (e : is_over s'.procs p ≡ true). rw e refl)
     (λ (e : is_over s'.procs p ≡ false). rw (e, off_duty s'.procs p x still) (omega (arith, nobody_passes x p s' cs (step_sound s k c) f.ready still)))
-    (either (is_over s'.procs p)))
+    (cases_Bool (is_over s'.procs p)))
     (onward p s c k o)
 
 -- those who have joined the rear meanwhile are not ahead of p, so none of them runs before it
@@ -344,7 +341,7 @@ rear_waits late p s (c ∷ cs) k o a =
     (λ (i : occurs w since < 1). rw (lt-leb 1 (occurs w since) i) refl)
     (le? 1 (occurs w since)) in
     rw (e, off) (omega (arith, rear_waits since p s' cs (step_sound s k c) f.ready none)))
-    (either (is_over s'.procs p)))
+    (cases_Bool (is_over s'.procs p)))
     (onward p s c k o)
 
 pub fair : (s : State) (p : ℕ) (cs : List Call) → Sound s → Ready s.procs p → Fair s.settings.slice s.procs p (moments s cs)

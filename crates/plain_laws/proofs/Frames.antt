@@ -6,7 +6,8 @@ use mathlib.Core.Logic.{◌≢◌, ◌⊎◌, inl, inr, ⊎_elim}
 use mathlib.Core.List.{List}
 use native.Mathlib.Omega.{arith}
 use Rattle.lists.specs.Lists.{occurs, without}
-use Rattle.lists.proofs.Laws.{same?, occurs-without-same, occurs-without_other}
+use Rattle.std.proofs.lemmas.Bool.{cases_eq}
+use Rattle.lists.proofs.Laws.{occurs-without-same, occurs-without_other}
 use Rattle.plain.specs.Sizes.{processes, classes, queues}
 use Rattle.plain.specs.State.{Procs, State, places}
 use Rattle.plain.specs.Sound.{Seated, Sound, In}
@@ -45,15 +46,15 @@ rear_framed Begins q p c t s hq hp new = record {
   waiting = λ i x b o. ⊎_elim
       (λ (e : x ≡ p). inr (rear_only p c t s q i (subst (λ (z : ℕ). In (to_rear q p c t s) i z) e o), e))
       (λ (d : x ≢ p). inl (omega (arith, rear_other p c t s q i x d)))
-      (same? x p);
+      (cases_eq x p);
   unused = λ x b z. ⊎_elim
       (λ (e : x ≡ p). absurd (omega (arith, rear_placed p c t s q hq hp, subst (λ (y : ℕ). places (to_rear q p c t s) y ≡ 0) e z)))
       (λ (d : x ≢ p). inl (sym (rear_kept p c t s q x hq b d) ∙ z))
-      (same? x p);
+      (cases_eq x p);
   rests = λ x b z. ⊎_elim
       (λ (e : x ≡ p). inr (subst Begins (sym e) (new (subst (λ (y : ℕ). places s y ≡ 0) e z))))
       (λ (d : x ≢ p). inl (rear_kept p c t s q x hq b d ∙ z))
-      (same? x p);
+      (cases_eq x p);
 }
 
 -- to the rear of a class nobody comes to wait
@@ -72,9 +73,9 @@ gone_framed p s h = record {
   waiting = λ q x b o. ⊎_elim
       (λ (e : x ≡ p). absurd (omega (arith, subst (λ (z : ℕ). occurs z (without p (s.queue q)) ≡ 0) (sym e) (occurs-without-same p (s.queue q)))))
       (λ (d : x ≢ p). inl (omega (arith, occurs-without_other x p (s.queue q) d)))
-      (same? x p);
-  unused = λ x b z. ⊎_elim (λ e. inr e) (λ (d : x ≢ p). inl (sym (leave_kept p 0 0 s x b d) ∙ z)) (same? x p);
-  rests = λ x b z. inl (⊎_elim (λ (e : x ≡ p). subst (λ (y : ℕ). places (leave p 0 0 s) y ≡ 0) (sym e) (leave-gone p 0 0 s h)) (λ (d : x ≢ p). leave_kept p 0 0 s x b d ∙ z) (same? x p));
+      (cases_eq x p);
+  unused = λ x b z. ⊎_elim (λ e. inr e) (λ (d : x ≢ p). inl (sym (leave_kept p 0 0 s x b d) ∙ z)) (cases_eq x p);
+  rests = λ x b z. inl (⊎_elim (λ (e : x ≡ p). subst (λ (y : ℕ). places (leave p 0 0 s) y ≡ 0) (sym e) (leave-gone p 0 0 s h)) (λ (d : x ≢ p). leave_kept p 0 0 s x b d ∙ z) (cases_eq x p));
 }
 
 pub same_framed : (s : Procs) (t : ℕ → ℕ) → Framed s Nowhere Nobody Nobody (record { running = s.running; queue = s.queue; class = s.class; ticks = t })

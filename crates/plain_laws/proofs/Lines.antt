@@ -10,7 +10,8 @@ use lib.Dec.{eqb}
 use lib.ListN.{drop}
 use borrow.Author.Tests.{eq-eqb, ne_eqb, eqb-false, leb-false, lt-ltb}
 use Rattle.lists.specs.Lists.{occurs, without}
-use Rattle.lists.proofs.Laws.{either, same?, put_same, one_same, occurs_rear, without_absent, without_split}
+use Rattle.std.proofs.lemmas.Bool.{cases_Bool, cases_eq}
+use Rattle.lists.proofs.Laws.{put_same, one_same, occurs_rear, without_absent, without_split}
 use Rattle.plain.specs.Sizes.{processes, classes, mailboxes, semaphores, queues, at_mailbox, at_semaphore}
 use Rattle.plain.specs.State.{Message, Procs, State, line, rank, fill, places, free_process}
 use Rattle.plain.specs.Mailboxes.{buffers_for}
@@ -85,13 +86,13 @@ module _ (s : State) (k : Sound s) (q : ℕ) (h : classes ≤ q) where
   class_off c z hc = ⊎_elim
       (λ e. rw e refl)
       (λ e. rw e (runner_off c (go_to n c (rank r.running c r)) z hc (go_to_settles n c c r (runner_away n r k.seated))))
-      (either (eqb c (r.class r.running)))
+      (cases_Bool (eqb c (r.class r.running)))
 
   tick_off : (ticked n r).queue q ≡ r.queue q
   tick_off = ⊎_elim
       (λ (z : r.running ≡ 0). rw (eq-eqb r.running 0 z) refl)
       (λ (z : r.running ≢ 0). rw (ne_eqb r.running 0 z) (go z (r.ticks r.running - 1)))
-      (same? r.running 0)
+      (cases_eq r.running 0)
     where
       go : r.running ≢ 0 → (t : ℕ) → (spent n t r).queue q ≡ r.queue q
       go z zero = yield_off z
@@ -119,7 +120,7 @@ module _ (s : State) (k : Sound s) (q : ℕ) (h : classes ≤ q) where
       (λ (d : q ≡ i). grows x (unserved c (wait_at i s) e)
       (to ∙ (subst (λ (j : ℕ). m.queue j ≡ without x (r.queue j) ++ (x ∷ [])) (sym d) (rear_there x (r.class x) n r i) ∙ ap (λ (l : List ℕ). l ++ (x ∷ [])) out)))
       (λ (d : q ≢ i). same c (wait_at i s) e (to ∙ (rear_elsewhere x (r.class x) n r i q d ∙ out)))
-      (same? q i)
+      (cases_eq q i)
 
   -- the first who waits in queue i is made ready, if there is one
   wakes : (c : Call) (i : ℕ) (l : List ℕ) (next : List ℕ → State) → is_for q c ≡ eqb i q → classes ≤ i → r.queue i ≡ l → (next []).procs ≡ r
@@ -128,7 +129,7 @@ module _ (s : State) (k : Sound s) (q : ℕ) (h : classes ≤ q) where
       (λ z. ⊎_elim
       (λ (j : i ≡ q). ap r.queue (sym j) ∙ is)
       (λ (j : i ≢ q). absurd (true≢false (sym z ∙ unserved c (done 0 (next [])) (e ∙ ne_eqb i q j))))
-      (same? i q))
+      (cases_eq i q))
       (ap (λ (a : Procs). a.queue q) none)
   wakes c i (w ∷ l) next e hi is none some =
       let here : In r i w = head_in n r k.seated i w l is in
@@ -144,7 +145,7 @@ module _ (s : State) (k : Sound s) (q : ℕ) (h : classes ≤ q) where
       (rw to (readied w d who.0 who.1 (k.seated.in_class w) (queued_rests n r k.seated i w here))))
       (λ (j : q ≢ i). same c (done 0 (next (w ∷ l))) (e ∙ ne_eqb i q (λ z. j (sym z)))
       (off_absent w d who.0 who.1 (k.seated.in_class w) (next (w ∷ l)).procs (one_queue n r k.seated i q w here j) to))
-      (same? q i)
+      (cases_eq q i)
 
   fetches : (m : ℕ) (l : List Message) → r.running ≢ 0 → m < mailboxes → Line q (moment s (receive m) (fetch m l s))
   fetches m [] z hm = pauses (receive m) (at_mailbox m) refl z (omega arith) (omega arith)
@@ -186,4 +187,4 @@ module _ (s : State) (k : Sound s) (q : ℕ) (h : classes ≤ q) where
   lined c = ⊎_elim
       (λ (e : is_refusal (step s c).answer ≡ true). stays (λ z. absurd (true≢false (sym z ∙ (rw e (and-false (is_for q c)))))) (ap (λ (t : State). t.procs.queue q) (unchanged s c e)))
       (λ (e : is_refusal (step s c).answer ≡ false). let p = accepted_passed s c e in subst (λ (o : Outcome). Line q (moment s c o)) (sym (accepted (refusals s c) s (perform s c) p)) (performs c p))
-      (either (is_refusal (step s c).answer))
+      (cases_Bool (is_refusal (step s c).answer))

@@ -8,7 +8,8 @@ use mathlib.Core.List.{List, [], ◌∷◌}
 use native.Mathlib.Omega.{arith}
 use borrow.Author.Tests.{eqb-true, eq-eqb, ne_eqb}
 use Rattle.std.specs.Prelude.{if◌then◌else◌}
-use Rattle.lists.proofs.Laws.{either, same?, le?, one_same}
+use Rattle.std.proofs.lemmas.Bool.{cases_Bool, cases_eq}
+use Rattle.lists.proofs.Laws.{le?, one_same}
 use Rattle.plain.specs.Sizes.{processes}
 use Rattle.plain.specs.State.{Procs, State, places, unused, free_process}
 use Rattle.plain.specs.Names.{rounds, name, bare, names}
@@ -52,7 +53,7 @@ used? : (r : Procs) (p : ℕ) → ((unused r p ≡ true) × (as_one (not (unused
 used? r p = ⊎_elim
     (λ (e : places r p ≡ 0). let t = eq-eqb (places r p) 0 e in inl (t, rw t refl))
     (λ (d : places r p ≢ 0). let t = ne_eqb (places r p) 0 d in inr (t, rw t refl, omega arith))
-    (same? (places r p) 0)
+    (cases_eq (places r p) 0)
 
 -- ---- what the calls that take a process do with a name n of process p
 
@@ -126,7 +127,7 @@ module _ (s : State) (k : Sound s) (n p : ℕ) (h : 1 ≤ p) (h' : p < processes
   other_name some few = ⊎_elim
       (λ y. absurd (moved_on (s.births p) born (k.births.most p) some few (sym count ∙ omega (arith, e, subst (λ (x : ℕ). n ≡ name t.births x) is (named t.births n y).1))))
       (λ y. y)
-      (either (names t.births n))
+      (cases_Bool (names t.births n))
 
   unstopped : stops ≡ 0 → Taken t n p
   unstopped z = ⊎_elim
@@ -138,7 +139,7 @@ module _ (s : State) (k : Sound s) (n p : ℕ) (h : 1 ≤ p) (h' : p < processes
   stale some few = ⊎_elim
       (λ (z : born ≡ 0). ⊎_elim (λ u. unused_stop t K n p h h' is u.0) (λ u. absurd (omega (arith, balanced, u.1))) (used? t.procs p))
       (λ (z : born ≢ 0). other_stop t K n p h h' is (other_name (omega arith) few))
-      (same? born 0)
+      (cases_eq born 0)
 
   last : 1 ≤ stops → born ≡ 0 → (Why.why t n ≡ done 0 t) × (Why.told t n ≡ Why.unused)
   last some z = ⊎_elim

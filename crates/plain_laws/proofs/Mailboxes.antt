@@ -10,7 +10,8 @@ use lib.ListN.{length, drop, length-append}
 use lib.Dec.{ltb, leb, eqb}
 use borrow.Author.Tests.{ne_eqb, le-ltb, lt-leb, leb-false}
 use Rattle.lists.specs.Lists.{put, occurs}
-use Rattle.lists.proofs.Laws.{either, both_true, le?, put_same, put_cases, occurs-append}
+use Rattle.std.proofs.lemmas.Bool.{cases_Bool, and_parts}
+use Rattle.lists.proofs.Laws.{le?, put_same, put_cases, occurs-append}
 use Rattle.lists.proofs.Those.{no_longer}
 use Rattle.plain.specs.Sizes.{mailboxes, buffers, longest, at_mailbox}
 use Rattle.plain.specs.State.{Message, Settings, State, fill, held, free_buffers}
@@ -36,7 +37,7 @@ unrefused m s e = rw e (and-false (is_full m s))
 
 overflow_drops : (m : ℕ) (s : State) → overflows m s ≡ true → drops m s ≡ true
 unfolding overflows
-overflow_drops m s e = (both_true (is_full m s) (drops m s) e).1
+overflow_drops m s e = (and_parts (is_full m s) (drops m s) e).1
 
 -- and 11 is given by one that does
 pub not_11 : (s : State) (m : ℕ) (b : List ℕ) → refuses m s ≡ false → (step s (send m b)).answer.code ≢ 11
@@ -130,7 +131,7 @@ mode_after : (s : State) (c : Call) (m : ℕ) → s.settings.mode m ≢ 1 → ((
 mode_after s c m h u = ⊎_elim
     (λ e. subst (λ (t : State). t.settings.mode m ≢ 1) (sym (unchanged s c e)) h)
     (λ e. subst (λ (x : Settings). x.mode m ≢ 1) (sym (settings_after s c e)) (mode_by (kind c) s.settings m h u))
-    (either (is_refusal (step s c).answer))
+    (cases_Bool (is_refusal (step s c).answer))
 
 pub none_dropped : (s : State) (m : ℕ) (cs : List Call) → s.settings.mode m ≢ 1 → ((n : ℕ) → Memᴰ (sets m n 1) (map kind cs) → ⊥) → dropped m s cs ≡ 0
 unfolding dropped

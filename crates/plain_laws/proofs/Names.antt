@@ -8,7 +8,8 @@ use native.Mathlib.Omega.{arith}
 use lib.Dec.{ltb, eqb}
 use borrow.Author.Tests.{ltb-true, lt-ltb, eqb-true, eq-eqb, ne_eqb}
 use Rattle.lists.specs.Lists.{put}
-use Rattle.lists.proofs.Laws.{both_true, same?, put_other, put_cases}
+use Rattle.std.proofs.lemmas.Bool.{and_parts, cases_eq}
+use Rattle.lists.proofs.Laws.{put_other, put_cases}
 use Rattle.plain.specs.Sizes.{processes}
 use Rattle.plain.specs.State.{Procs, places}
 use Rattle.plain.specs.Names.{rounds, raised, name, bare, names, Births}
@@ -24,7 +25,7 @@ module _ (births : ℕ → ℕ) where
   pub named : (n : ℕ) → names births n ≡ true → (bare n < processes) × (n ≡ name births (bare n))
   unfolding names
   named n e =
-      let both = both_true (ltb (bare n) processes) (eqb n (name births (bare n))) e in
+      let both = and_parts (ltb (bare n) processes) (eqb n (name births (bare n))) e in
       (ltb-true (bare n) processes both.0, eqb-true n (name births (bare n)) both.1)
 
   pub is_named : (n : ℕ) → bare n < processes → n ≡ name births (bare n) → names births n ≡ true
@@ -47,7 +48,7 @@ pub unborn : (r r' : Procs) (b x : ℕ) → b < rounds → (places r x ≡ 0 →
 unborn r r' b x h f = ⊎_elim
     (λ (z : places r x ≡ 0). rw (eq-eqb (places r x) 0 z, eq-eqb (places r' x) 0 (f z)) (omega arith))
     (λ (d : places r x ≢ 0). rw (ne_eqb (places r x) 0 d) (omega arith))
-    (same? (places r x) 0)
+    (cases_eq (places r x) 0)
 
 -- and is raised where it does
 pub reborn : (r r' : Procs) (b x : ℕ) → places r x ≡ 0 → 1 ≤ places r' x → raised b ≡ (b + as_one (begins r r' x)) % rounds

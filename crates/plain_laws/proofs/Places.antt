@@ -7,7 +7,8 @@ use mathlib.Core.List.{List, [], ◌∷◌, ◌++◌}
 use native.Mathlib.Omega.{arith}
 use borrow.Author.Tests.{eq-eqb, ne_eqb}
 use Rattle.lists.specs.Lists.{put, one, occurs, without}
-use Rattle.lists.proofs.Laws.{same?, put_same, put_other, one_same, one_other, occurs_rear, occurs-without-same, occurs-without_other, total-same, total_zero, total-at, total_two, total_change}
+use Rattle.std.proofs.lemmas.Bool.{cases_eq}
+use Rattle.lists.proofs.Laws.{put_same, put_other, one_same, one_other, occurs_rear, occurs-without-same, occurs-without_other, total-same, total_zero, total-at, total_two, total_change}
 use Rattle.plain.specs.Sizes.{queues}
 use Rattle.plain.specs.State.{Procs, spots, places}
 use Rattle.plain_laws.specs.Moves.{rid, leave, to_rear}
@@ -44,10 +45,10 @@ unfolding spots
 without_other r f x p d = omega (arith, total-same queues (λ i. occurs x (without p (f i))) (λ i. occurs x (f i)) (λ i h. occurs-without_other x p (f i) d))
 
 rid-one : (r p x : ℕ) → 1 ≤ x → x ≢ p → one (rid r p) x ≡ one r x
-rid-one r p x h d = ⊎_elim (λ e. rw (eq-eqb r p e) (omega (arith, one_other 0 x (omega arith), one_other r x (λ b. d (sym b ∙ e))))) (λ n. rw (ne_eqb r p n) refl) (same? r p)
+rid-one r p x h d = ⊎_elim (λ e. rw (eq-eqb r p e) (omega (arith, one_other 0 x (omega arith), one_other r x (λ b. d (sym b ∙ e))))) (λ n. rw (ne_eqb r p n) refl) (cases_eq r p)
 
 rid-gone : (r p : ℕ) → 1 ≤ p → one (rid r p) p ≡ 0
-rid-gone r p h = ⊎_elim (λ e. rw (eq-eqb r p e) (one_other 0 p (omega arith))) (λ n. rw (ne_eqb r p n) (one_other r p n)) (same? r p)
+rid-gone r p h = ⊎_elim (λ e. rw (eq-eqb r p e) (one_other 0 p (omega arith))) (λ n. rw (ne_eqb r p n) (one_other r p n)) (cases_eq r p)
 
 module _ (p c t : ℕ) (s : Procs) where
   pub leave-gone : 1 ≤ p → places (leave p c t s) p ≡ 0
@@ -81,7 +82,7 @@ module _ (p c t : ℕ) (s : Procs) where
       (λ (e : i ≡ q). rw (e, put_same (λ j. without p (s.queue j)) q (without p (s.queue q) ++ (p ∷ [])))
       (omega (arith, occurs_rear x p (without p (s.queue q)), occurs-without_other x p (s.queue q) d, one_other p x (λ b. d (sym b)))))
       (λ (e : i ≢ q). rw (put_other (λ j. without p (s.queue j)) q (without p (s.queue q) ++ (p ∷ [])) i e) (occurs-without_other x p (s.queue i) d))
-      (same? i q)
+      (cases_eq i q)
 
   pub rear_elsewhere : (q i : ℕ) → i ≢ q → (to_rear q p c t s).queue i ≡ without p (s.queue i)
   unfolding to_rear leave
@@ -92,4 +93,4 @@ module _ (p c t : ℕ) (s : Procs) where
   rear_there q = put_same (λ j. without p (s.queue j)) q (without p (s.queue q) ++ (p ∷ []))
 
   pub rear_only : (q i : ℕ) → 1 ≤ occurs p ((to_rear q p c t s).queue i) → i ≡ q
-  rear_only q i o = ⊎_elim (λ e. e) (λ d. absurd (omega (arith, ap (occurs p) (rear_elsewhere q i d), occurs-without-same p (s.queue i)))) (same? i q)
+  rear_only q i o = ⊎_elim (λ e. e) (λ d. absurd (omega (arith, ap (occurs p) (rear_elsewhere q i d), occurs-without-same p (s.queue i)))) (cases_eq i q)

@@ -11,7 +11,8 @@ use lib.ListN.{take, drop}
 use borrow.Author.Tests.{eqb-true, eqb-false, leb-false, not-false}
 use Rattle.std.specs.Prelude.{if◌then◌else◌}
 use Rattle.lists.specs.Lists.{occurs}
-use Rattle.lists.proofs.Laws.{same?, or_false, one_other}
+use Rattle.std.proofs.lemmas.Bool.{cases_eq, or_parts}
+use Rattle.lists.proofs.Laws.{one_other}
 use Rattle.plain.specs.Sizes.{processes, classes, at_mailbox, at_semaphore}
 use Rattle.plain.specs.State.{Message, Procs, State, line, rank, fill, free_process}
 use Rattle.plain.specs.Mailboxes.{buffers_for}
@@ -37,7 +38,7 @@ pub record Rejoins (n : ℕ) (s : Procs) (x : ℕ) (s' : Procs) : Type 0 where
 -- ---- each call
 
 alone : (x y : ℕ) → 1 ≤ occurs x (y ∷ []) → y ≡ x
-alone x y h = ⊎_elim (λ e. e) (λ (d : y ≢ x). absurd (omega (arith, one_other y x d))) (same? y x)
+alone x y h = ⊎_elim (λ e. e) (λ (d : y ≢ x). absurd (omega (arith, one_other y x d))) (cases_eq y x)
 
 module _ (s : State) (k : Sound s) where
   abbrev n : ℕ
@@ -72,7 +73,7 @@ module _ (s : State) (k : Sound s) where
   tick_joins x true e h = absurd (omega arith)
   tick_joins x false e h =
       let t : ℕ = r.ticks r.running - 1 in
-      let z = or_false (eqb r.running 0) (not (eqb t 0)) e in
+      let z = or_parts (eqb r.running 0) (not (eqb t 0)) e in
       let none : t ≡ 0 = eqb-true t 0 (not-false (eqb t 0) z.1) in
       rw (z.0, none) (yield_joins x (eqb-false r.running 0 z.0) h)
 

@@ -9,7 +9,7 @@ use mathlib.Core.Bool.{Bool, true, false, not, ◌||◌, true≢false}
 use mathlib.Core.Logic.{◌≢◌, ◌⊎◌, inl, inr, ⊎_elim}
 use mathlib.Core.List.{List, [], ◌∷◌, ◌++◌}
 use Rattle.std.specs.Prelude.{if◌then◌else◌}
-use Rattle.lists.proofs.Laws.{either}
+use Rattle.std.proofs.lemmas.Bool.{cases_Bool}
 use Rattle.plain.specs.State.{Settings, State}
 use Rattle.plain.specs.Calls.{Call, create, stop, end, yield, class, tick, mailbox, send, receive, read, release, signal, wait, Refusal, Outcome, perform, refusals, refused, judge, step, after}
 use Rattle.plain_laws.specs.History.{Kind, falls, posts, fetches, sets, other, Passed, First, codes, in_order, own, order, is_refusal, kind, is_tick, settings_by, as_one}
@@ -33,7 +33,7 @@ find (x ∷ rs) = ⊎_elim
           { before = x ∷ f.1.before; behind = f.1.behind; whole = ap (λ (l : List Refusal). x ∷ l) f.1.whole; passed = (e, f.1.passed); holds = f.1.holds },
     ))
     (λ p. inr (e, p)) (find rs))
-    (either x.holds)
+    (cases_Bool x.holds)
 
 pub given : (s : State) (c : Call) (r : Refusal) → First (refusals s c) r → step s c ≡ refused r s
 unfolding step
@@ -95,7 +95,7 @@ among P (k ∷ ks) [] e h = absurd (true≢false (sym e))
 among P (k ∷ ks) (o ∷ os) e h = ⊎_elim
     (λ (t : eqb k o ≡ true). (subst P (sym (eqb-true k o t)) h.0, among P ks os (sym (rw t refl) ∙ e) h.1))
     (λ (t : eqb k o ≡ false). among P (k ∷ ks) os (sym (rw t refl) ∙ e) h.1)
-    (either (eqb k o))
+    (cases_Bool (eqb k o))
 
 -- what holds of each number of the plain kernel's own holds of each code of a call
 pub each_code : (P : ℕ → Type 0) (s : State) (c : Call) → Every P own → Every P (codes (refusals s c))
@@ -137,7 +137,7 @@ nonzero s c = each_code (λ k. eqb k 0 ≡ false) s c search
 
 pub judge_cases : (P : Outcome → Type 0) (rs : List Refusal) (s : State) (o : Outcome) → NonZero rs → ((r : Refusal) → eqb r.code 0 ≡ false → P (refused r s)) → (Passed rs → P o) → P (judge rs s o)
 judge_cases P [] s o z f g = g tt
-judge_cases P (r ∷ rs) s o z f g = ⊎_elim (λ e. rw e (f r z.0)) (λ e. rw e (judge_cases P rs s o z.1 f (λ p. g (e, p)))) (either r.holds)
+judge_cases P (r ∷ rs) s o z f g = ⊎_elim (λ e. rw e (f r z.0)) (λ e. rw e (judge_cases P rs s o z.1 f (λ p. g (e, p)))) (cases_Bool r.holds)
 
 -- ---- a call that is not refused has none of its refusals
 
@@ -151,14 +151,14 @@ each-passes t [] e = tt
 each-passes t (k ∷ ks) e = ⊎_elim
     (λ (y : t k ≡ true). (y, each-passes t ks (sym (rw y refl) ∙ e)))
     (λ (n : t k ≡ false). absurd (true≢false (sym e ∙ rw n refl)))
-    (either (t k))
+    (cases_Bool (t k))
 
 passed : (rs : List Refusal) (s : State) (o : Outcome) → Every (λ k. not (eqb k 0 || eqb k 32) ≡ true) (codes rs) → is_refusal (judge rs s o).answer ≡ false → Passed rs
 passed [] s o z e = tt
 passed (r ∷ rs) s o z e = ⊎_elim
     (λ (h : r.holds ≡ true). absurd (true≢false (sym z.0 ∙ (sym (rw h refl) ∙ e))))
     (λ (h : r.holds ≡ false). (h, passed rs s o z.1 (sym (rw h refl) ∙ e)))
-    (either r.holds)
+    (cases_Bool r.holds)
 
 pub accepted_passed : (s : State) (c : Call) → is_refusal (step s c).answer ≡ false → Passed (refusals s c)
 unfolding step

@@ -10,7 +10,8 @@ use lib.ListN.{length, drop}
 use lib.Dec.{ltb, eqb}
 use borrow.Author.Tests.{eqb-false, ltb-false, leb-true}
 use Rattle.lists.specs.Lists.{someone}
-use Rattle.lists.proofs.Laws.{either, or_false, both_true, nobody, put_same, put_other, put_cases}
+use Rattle.std.proofs.lemmas.Bool.{cases_Bool, or_parts, and_parts}
+use Rattle.lists.proofs.Laws.{nobody, put_same, put_other, put_cases}
 use Rattle.plain.specs.Sizes.{mailboxes, at_mailbox}
 use Rattle.plain.specs.State.{Message, Settings, State, usual, fill}
 use Rattle.plain.specs.Mailboxes.{most_queued, allotted, no_size, busy, is_full, drops, refuses, overflows, relieved, Habits}
@@ -20,7 +21,7 @@ use Rattle.plain_laws.specs.History.{as_one}
 
 pub relieved_cases : (m : ℕ) (s : State) (P : State → Type 0) → (overflows m s ≡ false → P s) → (overflows m s ≡ true → P (fill m (drop 1 (s.box m)) s)) → P (relieved m s)
 unfolding relieved
-relieved_cases m s P f g = ⊎_elim (λ (e : overflows m s ≡ true). rw e (g e)) (λ (e : overflows m s ≡ false). rw e (f e)) (either (overflows m s))
+relieved_cases m s P f g = ⊎_elim (λ (e : overflows m s ≡ true). rw e (g e)) (λ (e : overflows m s ≡ false). rw e (f e)) (cases_Bool (overflows m s))
 
 pub relieved_other : (m : ℕ) (s : State) (i : ℕ) → i ≢ m → (relieved m s).box i ≡ s.box i
 relieved_other m s i d = relieved_cases m s (λ t. t.box i ≡ s.box i) (λ e. refl) (λ e. put_other s.box m (drop 1 (s.box m)) i d)
@@ -38,7 +39,7 @@ relieved-length m s = relieved_cases m s (λ t. length (t.box m) + as_one (overf
 
 pub overflow_full : (m : ℕ) (s : State) → overflows m s ≡ true → s.settings.capacity m ≤ length (s.box m)
 unfolding overflows
-overflow_full m s e = leb-true (s.settings.capacity m) (length (s.box m)) (both_true (is_full m s) (drops m s) e).0
+overflow_full m s e = leb-true (s.settings.capacity m) (length (s.box m)) (and_parts (is_full m s) (drops m s) e).0
 
 -- a mailbox that overflows has a first message if it takes one at least
 pub relieved_by : (m : ℕ) (s : State) (P : State → Type 0) → 1 ≤ s.settings.capacity m → (overflows m s ≡ false → P s)
@@ -72,15 +73,15 @@ no_overflow m s = go (is_full m s) (drops m s)
 pub size_passed : (c d : ℕ) → no_size c d ≡ false → (1 ≤ c) × (c ≤ most_queued) × (d ≤ 1)
 unfolding no_size
 size_passed c d e =
-    let a = or_false (eqb c 0 || ltb most_queued c) (ltb 1 d) e in
-    let b = or_false (eqb c 0) (ltb most_queued c) a.0 in
+    let a = or_parts (eqb c 0 || ltb most_queued c) (ltb 1 d) e in
+    let b = or_parts (eqb c 0) (ltb most_queued c) a.0 in
     let z = eqb-false c 0 b.0 in
     (omega arith, ltb-false most_queued c b.1, ltb-false 1 d a.1)
 
 pub idle-box : (m : ℕ) (s : State) → busy m s ≡ false → (s.box m ≡ []) × (s.procs.queue (at_mailbox m) ≡ [])
 unfolding busy
 idle-box m s e =
-    let a = or_false (someone (s.box m)) (someone (s.procs.queue (at_mailbox m))) e in
+    let a = or_parts (someone (s.box m)) (someone (s.procs.queue (at_mailbox m))) e in
     (nobody (s.box m) a.0, nobody (s.procs.queue (at_mailbox m)) a.1)
 
 pub usual-habits : Habits usual.capacity usual.mode

@@ -6,7 +6,8 @@ use mathlib.Core.Logic.{◌≢◌, ⊎_elim}
 use mathlib.Core.List.{List, ◌∷◌}
 use native.Mathlib.Omega.{arith}
 use Rattle.lists.specs.Lists.{occurs, without}
-use Rattle.lists.proofs.Laws.{same?, le?, put_other, put_cases, one_same, occurs-without-same, occurs-without_other}
+use Rattle.std.proofs.lemmas.Bool.{cases_eq}
+use Rattle.lists.proofs.Laws.{le?, put_other, put_cases, one_same, occurs-without-same, occurs-without_other}
 use Rattle.plain.specs.Sizes.{processes, classes, queues}
 use Rattle.plain.specs.State.{Procs, level, places, left}
 use Rattle.plain.specs.Sound.{Seated, In}
@@ -38,7 +39,7 @@ module _ (n : ℕ) (s : Procs) (k : Seated n s) where
       (λ h. rw (k.no_more_queues q h) refl)
       (λ h. ⊎_elim (λ e. rw e (k.null_nowhere q))
       (λ (d : s.running ≢ 0). omega (arith, k.one_place s.running (omega arith), spots-at s.running s.queue q s.running h, one_same s.running))
-      (same? s.running 0))
+      (cases_eq s.running 0))
       (le? queues q)
 
   -- who stands in one queue stands in no other
@@ -69,7 +70,7 @@ module _ (n : ℕ) (s : Procs) (k : Seated n s) where
       let one-there : (x : ℕ) → x ≡ p → places m x ≡ 1 = λ x e. subst (λ (z : ℕ). places m z ≡ 1) (sym e) (rear_placed p c t s q hq hp) in
       let kept : (x : ℕ) → 1 ≤ x → x ≢ p → places m x ≡ places s x = λ x h d. rear_kept p c t s q x hq h d in
       record {
-        one_place = λ x h. ⊎_elim (λ e. omega (arith, one-there x e)) (λ d. omega (arith, kept x h d, k.one_place x h)) (same? x p);
+        one_place = λ x h. ⊎_elim (λ e. omega (arith, one-there x e)) (λ d. omega (arith, kept x h d, k.one_place x h)) (cases_eq x p);
         own_class = λ i x h o. put_cases (λ (a : ℕ). a ≡ i) s.class p c x (λ e. let z = here i x e o in own (omega arith) ∙ sym z) (λ d. k.own_class i x h (was i x d o));
         null_nowhere = λ i. rear_other p c t s q i 0 (omega arith) ∙ k.null_nowhere i;
         nobody_else = λ x h. kept x (omega arith) (omega arith) ∙ k.nobody_else x h;
@@ -81,9 +82,9 @@ module _ (n : ℕ) (s : Procs) (k : Seated n s) where
         null_zeros = (put_other s.class p c 0 (omega arith) ∙ k.null_zeros.0, put_other s.ticks p t 0 (omega arith) ∙ k.null_zeros.1);
         unused_zeros = λ x z. ⊎_elim
             (λ e. absurd (omega (arith, one-there x e)))
-            (λ (d : x ≢ p). let still : (s.class x ≡ 0) × (s.ticks x ≡ 0) = ⊎_elim (λ o. rw o k.null_zeros) (λ o. k.unused_zeros x (omega (arith, kept x (omega arith) d))) (same? x 0) in
+            (λ (d : x ≢ p). let still : (s.class x ≡ 0) × (s.ticks x ≡ 0) = ⊎_elim (λ o. rw o k.null_zeros) (λ o. k.unused_zeros x (omega (arith, kept x (omega arith) d))) (cases_eq x 0) in
             (put_other s.class p c x d ∙ still.0, put_other s.ticks p t x d ∙ still.1))
-            (same? x p);
+            (cases_eq x p);
       }
 
   -- p leaves its place, and its block carries zeros
@@ -96,19 +97,19 @@ module _ (n : ℕ) (s : Procs) (k : Seated n s) where
       let gone : (x : ℕ) → x ≡ p → places m x ≡ 0 = λ x e. subst (λ (z : ℕ). places m z ≡ 0) (sym e) (leave-gone p 0 0 s hp) in
       let kept : (x : ℕ) → 1 ≤ x → x ≢ p → places m x ≡ places s x = λ x h d. leave_kept p 0 0 s x h d in
       record {
-        one_place = λ x h. ⊎_elim (λ e. omega (arith, gone x e)) (λ d. omega (arith, kept x h d, k.one_place x h)) (same? x p);
+        one_place = λ x h. ⊎_elim (λ e. omega (arith, gone x e)) (λ d. omega (arith, kept x h d, k.one_place x h)) (cases_eq x p);
         own_class = λ i x h o. put_other s.class p 0 x (other i x o) ∙ k.own_class i x h (was i x o);
         null_nowhere = λ i. occurs-without_other 0 p (s.queue i) (omega arith) ∙ k.null_nowhere i;
-        nobody_else = λ x h. ⊎_elim (λ e. gone x e) (λ d. kept x (omega arith) d ∙ k.nobody_else x h) (same? x p);
+        nobody_else = λ x h. ⊎_elim (λ e. gone x e) (λ d. kept x (omega arith) d ∙ k.nobody_else x h) (cases_eq x p);
         no_more_queues = λ i h. ap (without p) (k.no_more_queues i h);
         in_class = λ x. put_cases (λ (a : ℕ). a < classes) s.class p 0 x (λ e. omega arith) (λ d. k.in_class x);
         ticks_left = λ x h o. ⊎_elim (λ e. absurd (omega (arith, gone x e)))
-            (λ (d : x ≢ p). subst (λ (a : ℕ). 1 ≤ a) (sym (put_other s.ticks p 0 x d)) (k.ticks_left x h (omega (arith, kept x h d)))) (same? x p);
+            (λ (d : x ≢ p). subst (λ (a : ℕ). 1 ≤ a) (sym (put_other s.ticks p 0 x d)) (k.ticks_left x h (omega (arith, kept x h d)))) (cases_eq x p);
         ticks_most = λ x. put_cases (λ (a : ℕ). a ≤ n) s.ticks p 0 x (λ e. omega arith) (λ d. k.ticks_most x);
         waiter_ticks = λ i x h o. put_other s.ticks p 0 x (other i x o) ∙ k.waiter_ticks i x h (was i x o);
         null_zeros = (put_other s.class p 0 0 (omega arith) ∙ k.null_zeros.0, put_other s.ticks p 0 0 (omega arith) ∙ k.null_zeros.1);
         unused_zeros = λ x z.
-            let still : x ≢ p → (s.class x ≡ 0) × (s.ticks x ≡ 0) = λ d. ⊎_elim (λ o. rw o k.null_zeros) (λ o. k.unused_zeros x (omega (arith, kept x (omega arith) d))) (same? x 0) in
+            let still : x ≢ p → (s.class x ≡ 0) × (s.ticks x ≡ 0) = λ d. ⊎_elim (λ o. rw o k.null_zeros) (λ o. k.unused_zeros x (omega (arith, kept x (omega arith) d))) (cases_eq x 0) in
             (put_cases (λ (a : ℕ). a ≡ 0) s.class p 0 x (λ e. refl) (λ d. (still d).0), put_cases (λ (a : ℕ). a ≡ 0) s.ticks p 0 x (λ e. refl) (λ d. (still d).1));
       }
 

@@ -7,7 +7,8 @@ use mathlib.Core.List.{List, [], ◌∷◌}
 use native.Mathlib.Omega.{arith}
 use borrow.Author.Tests.{eq-eqb, ne_eqb}
 use Rattle.lists.specs.Lists.{put, one, occurs}
-use Rattle.lists.proofs.Laws.{same?, put_same, put_other, put_cases, one_other}
+use Rattle.std.proofs.lemmas.Bool.{cases_eq}
+use Rattle.lists.proofs.Laws.{put_same, put_other, put_cases, one_other}
 use Rattle.plain.specs.Sizes.{classes}
 use Rattle.plain.specs.State.{Procs, level, places, run, lines, line}
 use Rattle.plain.specs.Runs.{first, choose_below, choose, stand_down}
@@ -47,10 +48,10 @@ choice_below (suc n) s = go (s.queue n) refl (choice_below n s)
           l = p.l;
           below = omega (arith, p.below);
           stood = p.stood;
-          higher = λ d h b. ⊎_elim (λ x. rw x e) (λ x. p.higher d (omega arith) b) (same? d n);
+          higher = λ d h b. ⊎_elim (λ x. rw x e) (λ x. p.higher d (omega arith) b) (cases_eq d n);
           result = p.result;
         }))
-        (λ (p : Rests n s (choose_below n s)). inr (record { nobody = λ d h. ⊎_elim (λ x. rw x e) (λ x. p.nobody d (omega arith)) (same? d n); result = p.result }))
+        (λ (p : Rests n s (choose_below n s)). inr (record { nobody = λ d h. ⊎_elim (λ x. rw x e) (λ x. p.nobody d (omega arith)) (cases_eq d n); result = p.result }))
         ih
     go (w ∷ l) e ih = inl (record { c = n; w = w; l = l; below = omega arith; stood = e; higher = λ d h b. absurd (omega arith); result = refl })
 
@@ -65,7 +66,7 @@ module _ (s : Procs) where
   below_is (suc n) c w l b e h = ⊎_elim
       (λ (d : c ≡ n). subst (λ (z : ℕ). first z (s.queue z) s (choose_below z s) ≡ run w (line c l s)) d (rw e refl))
       (λ (d : c ≢ n). rw (h n (omega arith) (omega arith)) (below_is n c w l (omega arith) e (λ j x y. h j x (omega arith))))
-      (same? c n)
+      (cases_eq c n)
 
   -- the first of class c is chosen where no class above c has anyone
   pub choose_is : (c w : ℕ) (l : List ℕ) → c < classes → s.queue c ≡ w ∷ l → ((d : ℕ) → c < d → d < classes → s.queue d ≡ []) → choose s ≡ run w (line c l s)
@@ -111,7 +112,7 @@ module _ (n : ℕ) (s : Procs) (k : Seated n s) where
         ticks_most = k.ticks_most;
         waiter_ticks = λ i x b. put_cases (λ (a : List ℕ). 1 ≤ occurs x a → s.ticks x ≡ n) s.queue c l i (λ g o. absurd (omega arith)) (λ g. k.waiter_ticks i x b);
         null_zeros = k.null_zeros;
-        unused_zeros = λ x g. ⊎_elim (λ o. rw o k.null_zeros) (λ o. k.unused_zeros x (omega (arith, same x (omega arith)))) (same? x 0);
+        unused_zeros = λ x g. ⊎_elim (λ o. rw o k.null_zeros) (λ o. k.unused_zeros x (omega (arith, same x (omega arith)))) (cases_eq x 0);
       }
 
   pub choose-seated : s.running ≡ 0 → Seated n (choose s)
@@ -141,9 +142,9 @@ module _ (n : ℕ) (s : Procs) (k : Seated n s) where
         refl,
         reseat 0 (level s s.running) (s.running ∷ s.queue (level s s.running)) (k.in_class s.running)
             (λ x b. omega (arith, one_other 0 x (omega arith))) (omega (arith, one_other s.running 0 d, k.null_nowhere (level s s.running)))
-            (λ x. ⊎_elim (λ e o. rw e refl) (λ e o. k.own_class (level s s.running) x (k.in_class s.running) (omega (arith, one_other s.running x e))) (same? s.running x)),
+            (λ x. ⊎_elim (λ e o. rw e refl) (λ e o. k.own_class (level s s.running) x (k.in_class s.running) (omega (arith, one_other s.running x e))) (cases_eq s.running x)),
       ))
-      (same? s.running 0)
+      (cases_eq s.running 0)
 
 pub settle-seated : (n : ℕ) (s : Procs) → Seated n s → Seated n (settle s)
 unfolding settle
@@ -196,7 +197,7 @@ down_kept n s k = ⊎_elim
         one_other 0 x (omega arith),
       );
     }))
-    (same? s.running 0)
+    (cases_eq s.running 0)
 
 pub settle_kept : (n : ℕ) (s : Procs) → Seated n s → Kept s (settle s)
 unfolding settle
@@ -227,4 +228,4 @@ settle_still s cls hi = ⊎_elim
     (λ i b h. put_other s.queue c l i (omega arith) ∙ hi i h (λ g. b))
     ∙ lines_same (put (put s.queue c l) c (s.queue c)) s (λ q. put_cases (λ (a : List ℕ). a ≡ s.queue q) (put s.queue c l) c (s.queue c) q
     (λ e. ap s.queue (sym e)) (λ e. put_other s.queue c l q e))))
-    (same? s.running 0)
+    (cases_eq s.running 0)

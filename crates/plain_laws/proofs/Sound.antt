@@ -11,7 +11,8 @@ use lib.Dec.{leb, eqb}
 use lib.ListN.{length}
 use borrow.Author.Tests.{ltb-false, leb-false, eqb-false, not-false}
 use Rattle.lists.specs.Lists.{put, occurs}
-use Rattle.lists.proofs.Laws.{same?, put_same, put_other, put_cases, one_other, total_zero}
+use Rattle.std.proofs.lemmas.Bool.{cases_eq}
+use Rattle.lists.proofs.Laws.{put_same, put_other, put_cases, one_other, total_zero}
 use Rattle.plain.specs.Sizes.{processes, classes, mailboxes, semaphores, queues, longest, highest_count, at_mailbox, at_semaphore}
 use Rattle.plain.specs.State.{Message, Procs, Settings, State, start, usual, move, give, fill, score, line, rank, places, spots, held, free_process}
 use Rattle.plain.specs.Pages.{needed, lowest_free, too_few}
@@ -46,7 +47,7 @@ module _ {r r' : Procs} {Enters : ℕ → ℕ → Type 0} {Ends Begins : ℕ →
   -- who newly waits at a mailbox or is newly unused has an empty hand
   hands_framed : (hand : ℕ → Option Message) → Hands r hand → ((m x : ℕ) → m < mailboxes → Enters (at_mailbox m) x → hand x ≡ none) → ((x : ℕ) → Ends x → hand x ≡ none) → Hands r' hand
   hands_framed hand k enters ends = record {
-    unused = λ x z. ⊎_elim (λ e. rw e k.null) (λ e. ⊎_elim (λ y. k.unused x y) (λ y. ends x y) (f.unused x (omega arith) z)) (same? x 0);
+    unused = λ x z. ⊎_elim (λ e. rw e k.null) (λ e. ⊎_elim (λ y. k.unused x y) (λ y. ends x y) (f.unused x (omega arith) z)) (cases_eq x 0);
     null = k.null;
     waiters = λ m x b o. ⊎_elim (λ y. k.waiters m x b y) (λ y. enters m x b y) (f.waiting (at_mailbox m) x (omega arith) o);
   }

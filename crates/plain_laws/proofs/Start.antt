@@ -7,7 +7,7 @@ use mathlib.Core.Path.{◌≡◌, refl, sym, ◌∙◌}
 use native.Mathlib.Omega.{arith}
 use lib.Dec.{ltb, eqb}
 use borrow.Author.Tests.{eqb-false, ltb-false, ne_eqb, le-ltb}
-use Rattle.lists.proofs.Laws.{either, or_false}
+use Rattle.std.proofs.lemmas.Bool.{cases_Bool, or_parts}
 use Rattle.plain.specs.Calls.{Outcome, done, refused}
 use Rattle.plain.specs.Sound.{Sound}
 use Rattle.plain.specs.Start.{Set, longest_slice, slice_of, no_slice, fresh_start}
@@ -21,7 +21,7 @@ module _ (n : ℕ) where
 
   pub passes-set : (no_slice n).holds ≡ false → Set (slice_of n)
   passes-set e =
-      let a = or_false (eqb n 0) (ltb longest_slice n) e in
+      let a = or_parts (eqb n 0) (ltb longest_slice n) e in
       let z = eqb-false n 0 a.0 in
       record { some_ticks = omega arith; not_over = ltb-false longest_slice n a.1; habits = usual-habits }
 
@@ -31,7 +31,7 @@ module _ (n : ℕ) where
   start_cases P f g = ⊎_elim
       (λ (e : (no_slice n).holds ≡ true). rw e (f (λ z. true≢false (sym e ∙ set-passes z))))
       (λ (e : (no_slice n).holds ≡ false). rw e (g (passes-set e)))
-      (either (no_slice n).holds)
+      (cases_Bool (no_slice n).holds)
 
   pub start_taken : Set (slice_of n) → fresh_start n ≡ done 0 (start (slice_of n))
   start_taken z = start_cases (λ o. o ≡ done 0 (start (slice_of n))) (λ y. absurd (y z)) (λ z. refl)

@@ -10,7 +10,8 @@ use native.Mathlib.Omega.{arith}
 use lib.Dec.{eqb, ltb}
 use borrow.Author.Tests.{eq-eqb, ne_eqb, eqb-true, ltb-true, lt-leb}
 use Rattle.lists.specs.Lists.{someone, occurs, without, ahead}
-use Rattle.lists.proofs.Laws.{either, both_true, first_of, same?, put_same, one_same, one_other, occurs-append, occurs-without_other, without-append, ahead_rear, ahead-without}
+use Rattle.std.proofs.lemmas.Bool.{cases_Bool, and_parts, cases_eq}
+use Rattle.lists.proofs.Laws.{first_of, put_same, one_same, one_other, occurs-append, occurs-without_other, without-append, ahead_rear, ahead-without}
 use Rattle.plain.specs.Sizes.{classes, mailboxes, semaphores, highest_count, at_mailbox, at_semaphore}
 use Rattle.plain.specs.State.{Message, Procs, State, places, unused}
 use Rattle.plain.specs.Mailboxes.{refuses, relieved, buffers_for}
@@ -38,7 +39,7 @@ all_but r w (x ∷ l) z h =
     ⊎_elim
     (λ (e : x ≡ w). rw (eq-eqb x w e, eq-eqb (places r x) 0 (ap (places r) e ∙ z)) rest)
     (λ (d : x ≢ w). rw (ne_eqb x w d, not_unused r x (h x d (omega (arith, one_same x)))) (ap (λ (y : List ℕ). x ∷ y) rest))
-    (same? x w)
+    (cases_eq x w)
 
 all : (r : Procs) (l : List ℕ) → ((x : ℕ) → 1 ≤ occurs x l → 1 ≤ places r x) → unstopped r l ≡ l
 all r [] h = refl
@@ -82,7 +83,7 @@ module _ (s : State) (k : Sound s) (q : ℕ) (c : Call) where
       empty (x ∷ l) z v i = absurd (nil≢cons (sym z))
 
       go : Line q t → FirstInLine q l t
-      go (stays v i) = ⊎_elim (λ (y : serves q t ≡ true). empty l (sym e ∙ v y) y (i ∙ e)) (λ y. unserved l others y (i ∙ e)) (either (serves q t))
+      go (stays v i) = ⊎_elim (λ (y : serves q t ≡ true). empty l (sym e ∙ v y) y (i ∙ e)) (λ y. unserved l others y (i ∙ e)) (cases_Bool (serves q t))
       go (goes w r v f i b) = first_goes w r l others v (sym f ∙ e) i
       go (loses w v z i) = one_goes w l others v z (i ∙ ap (without w) e)
       go (grows w v i) = unserved l (others ++ (w ∷ [])) v (i ∙ (ap (λ (a : List ℕ). a ++ (w ∷ [])) e ∙ append_assoc l others (w ∷ [])))
@@ -101,15 +102,15 @@ module _ (s : State) (k : Sound s) (q : ℕ) (c : Call) where
       go (stays v e) = ⊎_elim
           (λ (y : serves q t ≡ true). absurd (omega (arith, ap (occurs p) (v y))))
           (λ (y : serves q t ≡ false). inr (inr (rw (y, e) (o, omega arith))))
-          (either (serves q t))
+          (cases_Bool (serves q t))
       go (goes w l v f e b) = ⊎_elim
           (λ (i : w ≡ p). inl (v, subst (λ (x : ℕ). (t.to.running ≡ x) ⊎ Ready t.to x) i b))
           (λ (i : w ≢ p). inr (inr (rw (v, e, f, ne_eqb w p i) (omega (arith, ap (occurs p) f, one_other w p i), omega arith))))
-          (same? w p)
+          (cases_eq w p)
       go (loses w v z e) = ⊎_elim
           (λ (i : w ≡ p). inr (inl (eq-eqb (places t.to p) 0 (ap (places t.to) (sym i) ∙ z))))
           (λ (i : w ≢ p). inr (inr (rw (v, e) (omega (arith, occurs-without_other p w (s.procs.queue q) (λ b. i (sym b))), omega (arith, ahead-without p w (s.procs.queue q) i)))))
-          (same? w p)
+          (cases_eq w p)
       go (grows w v e) = inr (inr (rw (v, e) (omega (arith, occurs-append p (s.procs.queue q) (w ∷ [])), omega (arith, ahead_rear p (s.procs.queue q) (w ∷ []) o))))
 
 -- ---- any calls
@@ -142,7 +143,7 @@ what_for q yield e = absurd (true≢false (sym e))
 what_for q (class c) e = absurd (true≢false (sym e))
 what_for q tick e = absurd (true≢false (sym e))
 what_for q (mailbox m c d) e = absurd (true≢false (sym e))
-what_for q (send m b) e = let both = both_true (ltb m mailboxes) (eqb (at_mailbox m) q) e in inl (m, b, refl, ltb-true m mailboxes both.0, eqb-true (at_mailbox m) q both.1)
+what_for q (send m b) e = let both = and_parts (ltb m mailboxes) (eqb (at_mailbox m) q) e in inl (m, b, refl, ltb-true m mailboxes both.0, eqb-true (at_mailbox m) q both.1)
 what_for q (receive m) e = absurd (true≢false (sym e))
 what_for q (read room) e = absurd (true≢false (sym e))
 what_for q release e = absurd (true≢false (sym e))
@@ -177,10 +178,10 @@ never_full q code taken s (c ∷ cs) k =
     let waiting : Bool = someone (s.procs.queue q) in
     let off : (waiting && (is_for q c && eqb (step s c).answer.code code)) ≡ false = ⊎_elim
     (λ (e : (waiting && (is_for q c && eqb (step s c).answer.code code)) ≡ true).
-    let a = both_true waiting (is_for q c && eqb (step s c).answer.code code) e in
-    let b = both_true (is_for q c) (eqb (step s c).answer.code code) a.1 in
+    let a = and_parts waiting (is_for q c && eqb (step s c).answer.code code) e in
+    let b = and_parts (is_for q c) (eqb (step s c).answer.code code) a.1 in
     absurd (taken s c k a.0 b.0 (eqb-true (step s c).answer.code code b.1)))
-    (λ e. e) (either (waiting && (is_for q c && eqb (step s c).answer.code code))) in
+    (λ e. e) (cases_Bool (waiting && (is_for q c && eqb (step s c).answer.code code))) in
     rw off (omega (arith, never_full q code taken (step s c).next cs (step_sound s k c)))
 
 never_13 : (i : ℕ) → i < semaphores → Never 13 (at_semaphore i)

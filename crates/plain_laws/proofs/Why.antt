@@ -11,7 +11,8 @@ use lib.ListN.{length, length-append}
 use borrow.Author.Tests.{eqb-true, eqb-false, eq-eqb, ne_eqb, lt-ltb, le-ltb, ltb-true, not-true}
 use Rattle.std.specs.Prelude.{if◌then◌else◌}
 use Rattle.lists.specs.Lists.{occurs, ahead}
-use Rattle.lists.proofs.Laws.{either, both_true, same?, le?, one_same, one_other, occurs-append, lowest-passes, lowest_is, lowest_none, total_zero, at_most, stands, ahead_split}
+use Rattle.std.proofs.lemmas.Bool.{cases_Bool, and_parts, cases_eq}
+use Rattle.lists.proofs.Laws.{le?, one_same, one_other, occurs-append, lowest-passes, lowest_is, lowest_none, total_zero, at_most, stands, ahead_split}
 use Rattle.plain.specs.Sizes.{processes, classes, mailboxes, semaphores, at_mailbox, at_semaphore, queues}
 use Rattle.plain.specs.State.{Procs, State, level, spots, places}
 use Rattle.plain.specs.Sound.{In, Sound}
@@ -43,14 +44,14 @@ module _ (s : Procs) (c : ℕ) where
 
   runner_of : is_runner_of s c ≡ true → RunnerOf s c
   runner_of t =
-      let a = both_true (not (eqb s.running 0)) (eqb (level s s.running) c) t in
+      let a = and_parts (not (eqb s.running 0)) (eqb (level s s.running) c) t in
       (eqb-false s.running 0 (not-true (eqb s.running 0) a.0), eqb-true (level s s.running) c a.1)
 
   not_of : is_runner_of s c ≡ false → RunnerOf s c → ⊥
   not_of e r = true≢false (sym (is_of r) ∙ e)
 
   no_runner : (RunnerOf s c → ⊥) → is_runner_of s c ≡ false
-  no_runner d = ⊎_elim (λ t. absurd (d (runner_of t))) (λ f. f) (either (is_runner_of s c))
+  no_runner d = ⊎_elim (λ t. absurd (d (runner_of t))) (λ f. f) (cases_Bool (is_runner_of s c))
 
 -- ---- who stands in a queue of a sound state
 
@@ -156,7 +157,7 @@ module _ (s : State) (S : Sound s) (p : ℕ) where
       (λ (h : q < classes). let own : level s.procs p ≡ q = S.seated.own_class q p h (there s S q p n w) in ⊎_elim
       (λ (t : is_runner_of s.procs q ≡ true). rw (in_class s.procs n q h t) (subst (RunnerOf s.procs) (sym own) (runner_of s.procs q t), (n, subst (λ (i : ℕ). Stands s.procs i p n) (sym own) w, refl)))
       (λ (t : is_runner_of s.procs q ≡ false). rw (in_another s.procs n q h t) (inl (subst (λ (i : ℕ). In s.procs i p) (sym own) (there s S q p n w), λ r. not_of s.procs q t (subst (RunnerOf s.procs) own r)), refl))
-      (either (is_runner_of s.procs q)))
+      (cases_Bool (is_runner_of s.procs q)))
       (le? classes q)
 
   -- who is in no queue and does not run is unused
@@ -179,9 +180,9 @@ module _ (s : State) (S : Sound s) (p : ℕ) where
       (λ (z : p ≢ 0). ⊎_elim
       (λ (none : queue_of s p ≡ queues). rw (given_nowhere s p d z none) (z, in_no_place d none))
       (λ (some : queue_of s p ≢ queues). let w = in_line (queue_of s p) (queue_in s p some) in rw (given_there s S (queue_of s p) p w.0 w.1) (says_in (queue_of s p) w.0 w.1))
-      (same? (queue_of s p) queues))
-      (same? p 0))
-      (same? p s.procs.running)
+      (cases_eq (queue_of s p) queues))
+      (cases_eq p 0))
+      (cases_eq p s.procs.running)
 
 -- ---- the numbers of a true reason are those of processes, mailboxes and semaphores
 

@@ -7,7 +7,7 @@ use mathlib.Core.Bool.{Bool, true, false}
 use mathlib.Core.List.{List, ◌∷◌}
 use lib.Dec.{eqb, ltb}
 use Rattle.lists.specs.Lists.{put, total}
-use Rattle.lists.proofs.Laws.{either}
+use Rattle.std.proofs.lemmas.Bool.{cases_Bool}
 use Rattle.bits.specs.Word.{width, word, bits, highest}
 use Rattle.bits.proofs.Words.{word_put}
 use Rattle.plain.specs.Sizes.{processes, classes, queues}
@@ -32,15 +32,15 @@ Marked p v k k' = k'.unused ≡ word width (put (bits k.unused) p v)
 
 chosen-same : (k : Numbers) → Same k (chosen k)
 unfolding chosen first_runs runs gone requeued
-chosen-same k = ⊎_elim (λ e. rw e) (λ e. rw e) (either (ltb (highest width width (bits k.ready)) classes))
+chosen-same k = ⊎_elim (λ e. rw e) (λ e. rw e) (cases_Bool (ltb (highest width width (bits k.ready)) classes))
 
 down_same : (k : Numbers) → Same k (stood_down k)
 unfolding stood_down runs fronted requeued
-down_same k = ⊎_elim (λ e. rw e) (λ e. rw e) (either (eqb k.running 0))
+down_same k = ⊎_elim (λ e. rw e) (λ e. rw e) (cases_Bool (eqb k.running 0))
 
 readied-same : (n p : ℕ) (k : Numbers) → Same k (readied n p k)
 unfolding readied preempted runs joined requeued timed
-readied-same n p k = ⊎_elim (λ e. rw e (down_same (timed p n k))) (λ e. rw e) (either (is_above p k))
+readied-same n p k = ⊎_elim (λ e. rw e (down_same (timed p n k))) (λ e. rw e) (cases_Bool (is_above p k))
 
 went_same : (n q : ℕ) (k : Numbers) → Same k (went_to n q k)
 unfolding went_to joined requeued timed
@@ -52,17 +52,17 @@ yielded-same n k = went_same n (class_at k k.running) k
 
 woken-same : (n q : ℕ) (k : Numbers) → Same k (woken n q k)
 unfolding woken gone requeued
-woken-same n q k = ⊎_elim (λ e. rw e (readied-same n (first_of k q) (gone q (first_of k q) k))) (λ e. rw e) (either (ltb (first_of k q) processes))
+woken-same n q k = ⊎_elim (λ e. rw e (readied-same n (first_of k q) (gone q (first_of k q) k))) (λ e. rw e) (cases_Bool (ltb (first_of k q) processes))
 
 regraded-same : (n c : ℕ) (k : Numbers) → Same k (regraded n c k)
 unfolding regraded ranked
-regraded-same n c k = ⊎_elim (λ e. rw e) (λ e. rw e (went_same n c (ranked k.running c k))) (either (eqb c (class_at k k.running)))
+regraded-same n c k = ⊎_elim (λ e. rw e) (λ e. rw e (went_same n c (ranked k.running c k))) (cases_Bool (eqb c (class_at k k.running)))
 
 ticked-same : (n : ℕ) (k : Numbers) → Same k (ticked n k)
 unfolding ticked timed
 ticked-same n k = ⊎_elim (λ e. rw e)
-    (λ e. rw e (⊎_elim (λ f. rw f) (λ f. rw f (yielded-same n k)) (either (ltb 1 (ticks_at k k.running)))))
-    (either (eqb k.running 0))
+    (λ e. rw e (⊎_elim (λ f. rw f) (λ f. rw f (yielded-same n k)) (cases_Bool (ltb 1 (ticks_at k k.running)))))
+    (cases_Bool (eqb k.running 0))
 
 created-marked : (n p c : ℕ) (k : Numbers) → Marked p false k (created n p c k)
 unfolding created ranked marked
@@ -70,7 +70,7 @@ created-marked n p c k = ap (λ (w : ℕ). word width (put (bits w) p false)) (r
 
 halted-marked : (p : ℕ) (k : Numbers) → Marked p true k (halted p k)
 unfolding halted removed marked timed ranked gone requeued
-halted-marked p k = ⊎_elim (λ e. rw e (chosen-same (removed p k))) (λ e. rw e) (either (eqb k.running p))
+halted-marked p k = ⊎_elim (λ e. rw e (chosen-same (removed p k))) (λ e. rw e) (cases_Bool (eqb k.running p))
 
 -- ---- a struct between calls
 

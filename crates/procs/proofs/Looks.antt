@@ -9,7 +9,8 @@ use native.Mathlib.Omega.{arith}
 use lib.Dec.{eqb}
 use borrow.Author.Tests.{eq-eqb, ne_eqb}
 use Rattle.lists.specs.Lists.{lowest}
-use Rattle.lists.proofs.Laws.{same?, lowest-same}
+use Rattle.std.proofs.lemmas.Bool.{cases_eq}
+use Rattle.lists.proofs.Laws.{lowest-same}
 use Rattle.bits.specs.Word.{width}
 use Rattle.bits.proofs.Words.{word_has, word-lowest}
 use Rattle.rings.proofs.Looks.{first_is}
@@ -37,7 +38,7 @@ module _ {k : Numbers} {s : Procs} (K : Keeps k s) where
   -- whether a number, which is a process's if it is named, is nobody to stop
   pub no_process_lem : (is_named : Bool) (p : ℕ) → (is_named ≡ true → p < processes) → (eqb p 0 || (not is_named || unused_at k p)) ≡ (eqb p 0 || (not is_named || unused s p))
   no_process_lem false p low = refl
-  no_process_lem true p low = ⊎_elim (λ (e : p ≡ 0). rw (eq-eqb p 0 e)) (λ (d : p ≢ 0). rw (unused-bit p (omega arith) (low refl))) (same? p 0)
+  no_process_lem true p low = ⊎_elim (λ (e : p ≡ 0). rw (eq-eqb p 0 e)) (λ (d : p ≢ 0). rw (unused-bit p (omega arith) (low refl))) (cases_eq p 0)
 
   module _ (q : ℕ) {w : ℕ} (is : w ≡ first_of k q) where
     pub first_there : w < processes → (l : List ℕ) × (s.queue q ≡ w ∷ l)

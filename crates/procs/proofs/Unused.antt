@@ -8,7 +8,8 @@ use mathlib.Core.Path.{◌≡◌, refl, sym, ap, ◌∙◌, subst}
 use native.Mathlib.Omega.{arith}
 use lib.Dec.{eqb}
 use borrow.Author.Tests.{eq-eqb, ne_eqb}
-use Rattle.lists.proofs.Laws.{either, same?, put_cases}
+use Rattle.std.proofs.lemmas.Bool.{cases_Bool, cases_eq}
+use Rattle.lists.proofs.Laws.{put_cases}
 use Rattle.lists.specs.Lists.{put}
 use Rattle.bits.proofs.Words.{word_same}
 use Rattle.bits.specs.Word.{width, word}
@@ -29,13 +30,13 @@ abbrev pub SameUsed : Procs → Procs → Type 0
 SameUsed s s' = (x : ℕ) → 1 ≤ x → places s' x ≡ places s x
 
 pub same_word : (s s' : Procs) → SameUsed s s' → word width (is_unused s') ≡ word width (is_unused s)
-same_word s s' h = word_same width (is_unused s') (is_unused s) (λ x b. ⊎_elim (λ e. rw e refl) (λ (d : x ≢ 0). ap (λ (n : ℕ). not (eqb x 0) && eqb n 0) (h x (omega arith))) (same? x 0))
+same_word s s' h = word_same width (is_unused s') (is_unused s) (λ x b. ⊎_elim (λ e. rw e refl) (λ (d : x ≢ 0). ap (λ (n : ℕ). not (eqb x 0) && eqb n 0) (h x (omega arith))) (cases_eq x 0))
 
 -- p is used, or unused, and all others are as they were
 changed_word : (s s' : Procs) (p : ℕ) (v : Bool) → 1 ≤ p → eqb (places s' p) 0 ≡ v → ((x : ℕ) → 1 ≤ x → x ≢ p → places s' x ≡ places s x) → word width (is_unused s') ≡ word width (put (is_unused s) p v)
 changed_word s s' p v hp e h = word_same width (is_unused s') (put (is_unused s) p v) (λ x b. put_cases (λ (a : Bool). is_unused s' x ≡ a) (is_unused s) p v x
     (λ (d : x ≡ p). rw (d, ne_eqb p 0 (λ z. omega arith)) e)
-    (λ (d : x ≢ p). ⊎_elim (λ z. rw z refl) (λ (z : x ≢ 0). ap (λ (n : ℕ). not (eqb x 0) && eqb n 0) (h x (omega arith) d)) (same? x 0)))
+    (λ (d : x ≢ p). ⊎_elim (λ z. rw z refl) (λ (z : x ≢ 0). ap (λ (n : ℕ). not (eqb x 0) && eqb n 0) (h x (omega arith) d)) (cases_eq x 0)))
 
 module _ {n : ℕ} (some : 1 ≤ n) (s : Procs) (k : Seated n s) where
   -- p, who is used, goes to the rear of queue q; settle
@@ -43,7 +44,7 @@ module _ {n : ℕ} (some : 1 ≤ n) (s : Procs) (k : Seated n s) where
   rear_used q p c hq hp hp' hc own used x h =
       (settle_kept n (to_rear q p c n s) (rear_seated n s k q p c n hq hp hp' hc own some (omega arith) (λ z. refl))).placed x h
       ∙ ⊎_elim (λ (e : x ≡ p). subst (λ (y : ℕ). places (to_rear q p c n s) y ≡ places s y) (sym e) (omega (arith, rear_placed p c n s q hq hp, k.one_place p hp)))
-      (λ (d : x ≢ p). rear_kept p c n s q x hq h d) (same? x p)
+      (λ (d : x ≢ p). rear_kept p c n s q x hq h d) (cases_eq x p)
 
   goes_used : (q c : ℕ) → s.running ≢ 0 → q < queues → c < classes → (q < classes → c ≡ q) → SameUsed s (settle (to_rear q s.running c n s))
   goes_used q c z hq hc own = rear_used q s.running c hq (omega arith) (runner_range n s k) hc own (runs_once s)
@@ -58,12 +59,12 @@ module _ {n : ℕ} (some : 1 ≤ n) (s : Procs) (k : Seated n s) where
     pub regraded-used : (c : ℕ) → s.running ≢ 0 → c < classes → SameUsed s (regraded n c s)
     regraded-used c z hc = ⊎_elim (λ e. rw e (λ x h. refl))
         (λ e. rw e (rw (go_to_settles n c c s (runner_away n s k)) (goes_used c c z (omega arith) hc (λ b. refl))))
-        (either (eqb c (s.class s.running)))
+        (cases_Bool (eqb c (s.class s.running)))
 
     pub ticked-used : SameUsed s (ticked n s)
     ticked-used = ⊎_elim (λ (e : s.running ≡ 0). rw (eq-eqb s.running 0 e) (λ x h. refl))
         (λ (d : s.running ≢ 0). rw (ne_eqb s.running 0 d) (go d (s.ticks s.running - 1)))
-        (same? s.running 0)
+        (cases_eq s.running 0)
       where
         go : s.running ≢ 0 → (t : ℕ) → SameUsed s (spent n t s)
         go d zero = yielded-used d

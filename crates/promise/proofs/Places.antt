@@ -6,7 +6,8 @@ use mathlib.Core.Logic.{◌≢◌, ⊎_elim}
 use mathlib.Core.Path.{◌≡◌, refl, sym, ◌∙◌, subst}
 use native.Mathlib.Omega.{arith}
 use lib.ListN.{length, get_or}
-use Rattle.lists.proofs.Laws.{le?, same?, one_same, one_other}
+use Rattle.std.proofs.lemmas.Bool.{cases_eq}
+use Rattle.lists.proofs.Laws.{le?, one_same, one_other}
 use Rattle.lists.specs.Lists.{occurs}
 use Rattle.plain.specs.Sizes.{buffers, buffer_size, store_size}
 use Rattle.promise.specs.Pages.{place}
@@ -58,7 +59,7 @@ nth_occurs (x ∷ l) zero h = omega (arith, one_same x)
 nth_occurs (x ∷ l) (suc q) h = omega (arith, nth_occurs l q (omega arith))
 
 pub only : (x y : ℕ) → 1 ≤ occurs y (x ∷ []) → x ≡ y
-only x y o = ⊎_elim (λ e. e) (λ (d : x ≢ y). absurd (omega (arith, one_other x y d))) (same? x y)
+only x y o = ⊎_elim (λ e. e) (λ (d : x ≢ y). absurd (omega (arith, one_other x y d))) (cases_eq x y)
 
 -- a place is somewhere in one of the buffers
 record Spot (l : List ℕ) (i : ℕ) : Type 0 where

@@ -10,7 +10,7 @@ use lib.Dec.{ltb}
 use borrow.Author.Tests.{eq-eqb, ne_eqb, not-false, lt-ltb}
 use Rattle.std.specs.Prelude.{if◌then◌else◌, Some, None}
 use Rattle.lists.specs.Lists.{ahead}
-use Rattle.lists.proofs.Laws.{same?}
+use Rattle.std.proofs.lemmas.Bool.{cases_eq}
 use Rattle.rings.proofs.Laws.{placed, elsewhere}
 use Rattle.plain.specs.Calls as Calls
 use Rattle.plain.specs.Listing.{queue_of}
@@ -29,7 +29,7 @@ use Rattle.rings.specs.Decides.{Decides}
 use Rattle.kernel.proofs.Judging.{runner_is, judged_by, refused_call, accepted_call, judged_passed}
 use Rattle.kernel.specs.Holds.{Holds, IsSound}
 use Rattle.kernel.specs.Judged.{Judged, refused_with}
-use Rattle.kernel.specs.declared.Answer.{Answer}
+use Rattle.verdicts.specs.declared.Answer.{Answer}
 use Rattle.kernel.specs.declared.Kernel.{Kernel}
 use Rattle.verdicts.specs.Chain.{Verdict, found}
 use Rattle.rows.specs.Places.{spot, spot_in}
@@ -80,8 +80,8 @@ module _ {k : Kernel} {s : State} (H : Holds k s) (p : ℕ) where
       (λ (d : p ≢ s.procs.running). ⊎_elim
       (λ (z : p ≡ 0). rw (H.procs.stands.running, ne_eqb p s.procs.running d, eq-eqb p 0 z))
       (λ (z : p ≢ 0). rw (ne_eqb p n.running (λ e. d (e ∙ H.procs.stands.running)), ne_eqb p s.procs.running d, ne_eqb p 0 z) (as_runner _ ∙ resting))
-      (same? p 0))
-      (same? p s.procs.running)
+      (cases_eq p 0))
+      (cases_eq p s.procs.running)
 
 -- ---- the promise
 

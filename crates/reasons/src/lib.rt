@@ -23,24 +23,25 @@ use verdicts::Refusal;
 pub enum Reason {
     Unused,
     Running,
-    // Behind so many of its class, the one that runs among them.
+    /// Behind so many of its class, the one that runs among them.
     Ready(u8),
-    // At that mailbox or semaphore, with so many ahead.
+    /// At that mailbox or semaphore, with so many ahead.
     Mailbox(u8, u8),
     Semaphore(u8, u8),
-    // Ready while that process runs.
+    /// Ready while that process runs.
     Behind(u8),
 }
 
-// A reason beside the answer; none where the question is refused.
+/// A reason beside the answer; none where the question is refused.
 #[derive(Clone, Copy)]
 pub struct Explained {
     pub answer: Answer,
     pub reason: Option<Reason>,
 }
 
-// Which kind of reason, which mailbox, semaphore or process, and how many are ahead.
-#[derive(Clone, Copy)]
+/// Which kind of reason, which mailbox, semaphore or process, and how many are ahead.
+/// The kind is a number, since C reads it.
+#[derive(Clone, Copy, Default)]
 pub struct Numbers {
     pub kind: u32,
     pub which: u32,
@@ -57,16 +58,20 @@ fn numbered(kind: u32, which: u8, ahead: u8) -> Numbers
     }
 }
 
-pub fn in_numbers(reason: Reason) -> Numbers
-    ensures { result ≡ given (Plain.numbers (meant reason)) }
-{
-    match reason {
-        Reason::Unused => numbered(0, 0, 0),
-        Reason::Running => numbered(1, 0, 0),
-        Reason::Ready(n) => numbered(2, 0, n),
-        Reason::Mailbox(x, n) => numbered(3, x, n),
-        Reason::Semaphore(x, n) => numbered(4, x, n),
-        Reason::Behind(q) => numbered(5, q, 0),
+impl From<Reason> for Numbers {
+    ghost from_gives = { λ r n. n ≡ given (Plain.numbers (meant r)) };
+
+    fn from(reason: Reason) -> Numbers
+        ensures { result ≡ given (Plain.numbers (meant reason)) }
+    {
+        match reason {
+            Reason::Unused => numbered(0, 0, 0),
+            Reason::Running => numbered(1, 0, 0),
+            Reason::Ready(n) => numbered(2, 0, n),
+            Reason::Mailbox(x, n) => numbered(3, x, n),
+            Reason::Semaphore(x, n) => numbered(4, x, n),
+            Reason::Behind(q) => numbered(5, q, 0),
+        }
     }
 }
 
@@ -75,27 +80,24 @@ fn ready(running: Pid, class: u8, c: u8, ahead: u8) -> Reason
     requires { ahead ≤ processes }
     ensures { meant result ≡ (if Plain.is_runner_of (runner running.0 class) c then Plain.ready (suc ahead) else Plain.behind running.0) }
 {
-    if running.0 == 0 || class != c {
+    if running == Pid(0) || class != c {
         return Reason::Behind(running.0);
     }
     Reason::Ready(ahead + 1)
 }
 
 // At that spot, while a process of that class runs.
+#[tactic(auto, unfolding(crate::specs::Numbered::reason_by))]
 fn reason_at(running: Pid, class: u8, s: Spot) -> Reason
     requires { s.position ≤ processes }
     ensures { meant result ≡ reason_by (runner running.0 class) s }
 {
-    if s.place == READY {
-        return ready(running, class, s.which, s.position);
+    match s.place {
+        READY => ready(running, class, s.which, s.position),
+        AT_MAILBOX => Reason::Mailbox(s.which, s.position),
+        AT_SEMAPHORE => Reason::Semaphore(s.which, s.position),
+        _ => Reason::Unused,
     }
-    if s.place == AT_MAILBOX {
-        return Reason::Mailbox(s.which, s.position);
-    }
-    if s.place == AT_SEMAPHORE {
-        return Reason::Semaphore(s.which, s.position);
-    }
-    Reason::Unused
 }
 
 fn reason_of(k: Procs, p: Pid) -> Reason
@@ -104,7 +106,7 @@ fn reason_of(k: Procs, p: Pid) -> Reason
     if p == k.running {
         return Reason::Running;
     }
-    if p.0 == 0 {
+    if p == Pid(0) {
         return Reason::Behind(k.running.0);
     }
     reason_at(k.running, k.class_of(k.running), spot_of(k.queues.next, p))
@@ -116,19 +118,15 @@ fn judge(k: Kernel, name: u32) -> Result<(), Refusal>
     verdicts::on_why(k.facts(), names::is_name(k.births, name))
 }
 
-// Why the process of that name waits.
+/// Why the process of that name waits.
 pub fn why(k: Kernel, name: u32) -> Explained
     ensures { Explains Holds k name result }
 {
     let v = judge(k, name);
     let answer = k.answer_found(v);
-    if v.is_err() {
-        return Explained {
-            answer,
-            reason: None,
-        };
-    }
-    let p = names::bare(name);
-    let reason = Some(reason_of(k.procs, Pid(p as u8)));
+    let reason = match v {
+        Ok(()) => Some(reason_of(k.procs, Pid(names::bare(name) as u8))),
+        Err(_) => None,
+    };
     Explained { answer, reason }
 }

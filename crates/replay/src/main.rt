@@ -27,6 +27,7 @@ struct Session {
     out: [u8; OUT_SIZE],
 }
 
+// What is read lies in an area beside the session, since a chunk of it is handed over while the session changes.
 impl Session {
     // A chunk is handed over until none of it is left. Each time what was answered is written, so that it is there before more is read.
     fn chunk(&mut self, to: &impl Print, bytes: &[u8]) -> io::Result<()>
@@ -34,6 +35,7 @@ impl Session {
         ensures err { OnErr result (Breaks self.old bytes.now self.new) }
     {
         let mut rest = bytes;
+        // The loop steps by what feed took, and no iterator is plainer.
         while !rest.is_empty() {
             let f = feed::feed(
                 self.ongoing,

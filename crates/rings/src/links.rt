@@ -2,14 +2,14 @@
 // last node, nothing changes.
 // Each move has one return at its end: a second one would cost several copies of the tables.
 ghost use borrow.Author.Tests.{ltb-false};
-ghost use Rattle.std.specs.Prelude.{◌≡◌, ◌+◌, ◌≤◌, List, map, refl, ℕ};
-ghost use Rattle.rings.specs.Moves.{MadeFresh, JoinedRear, JoinedFront, HasLeft, IsFirst, SaysEmpty, SaysAtLeast};
+ghost use Rattle.std.specs.Prelude.{◌≡◌, ◌+◌, ◌%◌, ◌≤◌, List, map, refl, ℕ};
+ghost use Rattle.rings.specs.Moves.{own, MadeFresh, JoinedRear, JoinedFront, HasLeft, IsFirst, SaysEmpty, SaysAtLeast};
 ghost use Rattle.rings.specs.Links.{tables_of};
 ghost use Rattle.rings.specs.Walk.{tables};
 
 use sizes::{Bid, Pid, Unit};
 
-// What stands in queues whose links are NODES nodes: a node for each member, then the head of each queue; a byte holds a node's number.
+/// What stands in queues whose links are NODES nodes: a node for each member, then the head of each queue; a byte holds a node's number.
 pub trait Member<const NODES: usize>: Unit {
     const MEMBERS: usize;
 
@@ -56,14 +56,14 @@ impl Member<BOX_NODES> for Bid {
     ghost few = { ltb-false 255 48 refl };
 }
 
-// The node after each node, and the node before it. A member in no queue is linked to itself.
+/// The node after each node, and the node before it. A member in no queue is linked to itself.
 #[derive(Clone, Copy)]
 pub struct Links<T, const NODES: usize> {
     pub next: [T; NODES],
     pub prev: [T; NODES],
 }
 
-// The links as bytes, to be lent.
+/// The links as bytes, to be lent.
 pub fn bytes_of<T: Unit, const N: usize>(links: [T; N]) -> [u8; N]
     ensures { result ≡ map T.num links }
 {
@@ -74,22 +74,31 @@ pub fn bytes_of<T: Unit, const N: usize>(links: [T; N]) -> [u8; N]
     bytes
 }
 
+/// Unit i at each place i. A byte holds its number, so from place 256 on the numbers begin at 0 again.
+/// A `for`: `from_fn` asks that the array has fewer than 2^63 bytes, and of any T and any length nothing says so.
+pub fn own<T: Unit, const UNITS: usize>() -> [T; UNITS]
+    ensures { map T.num result ≡ map (λ i. i % 256) (own UNITS) }
+{
+    let mut units = [T::of(0); UNITS];
+    for i in 0..UNITS {
+        units[i] = T::of((i % 256) as u8);
+    }
+    units
+}
+
 impl<T: Member<NODES>, const NODES: usize> Links<T, NODES> {
-    // Every queue is empty.
+    /// Every queue is empty.
     pub fn fresh() -> Self
         ensures { MadeFresh T.MEMBERS T.HEADS (tables_of T.num result) }
     {
-        let mut own = [T::of(0); NODES];
-        for i in 0..NODES {
-            own[i] = T::of(i as u8);
-        }
+        let alone = own();
         Links {
-            next: own,
-            prev: own,
+            next: alone,
+            prev: alone,
         }
     }
 
-    // p, who stands in no queue, joins the rear of queue q.
+    /// p, who stands in no queue, joins the rear of queue q.
     pub fn join_rear(mut self, q: u32, p: T) -> Self
         ensures { JoinedRear T.MEMBERS T.HEADS (tables_of T.num self) q (T.num p) (tables_of T.num result) }
     {
@@ -108,7 +117,7 @@ impl<T: Member<NODES>, const NODES: usize> Links<T, NODES> {
         self
     }
 
-    // p, who stands in no queue, joins the front of queue q.
+    /// p, who stands in no queue, joins the front of queue q.
     pub fn join_front(mut self, q: u32, p: T) -> Self
         ensures { JoinedFront T.MEMBERS T.HEADS (tables_of T.num self) q (T.num p) (tables_of T.num result) }
     {
@@ -127,7 +136,7 @@ impl<T: Member<NODES>, const NODES: usize> Links<T, NODES> {
         self
     }
 
-    // p leaves the queue in which it stands, if it stands in one.
+    /// p leaves the queue in which it stands, if it stands in one.
     pub fn leave(mut self, p: T) -> Self
         ensures { HasLeft T.MEMBERS T.HEADS (tables_of T.num self) (T.num p) (tables_of T.num result) }
     {
@@ -147,15 +156,11 @@ impl<T: Member<NODES>, const NODES: usize> Links<T, NODES> {
         self
     }
 
-    // The first of queue q; where it is empty, a number that is no member.
+    /// The first of queue q; where it is empty, a number that is no member: no Option, since every move takes that as it is and changes nothing.
     pub fn first(self, q: u32) -> T
         ensures { IsFirst T.MEMBERS T.HEADS (tables_of T.num self) q (T.num result) }
     {
-        if (q as usize) < T::HEADS {
-            self.next[T::MEMBERS + q as usize]
-        } else {
-            T::of(T::MEMBERS as u8)
-        }
+        Self::first_by(&self.next, q)
     }
 
     pub fn is_empty(self, q: u32) -> bool
@@ -164,18 +169,18 @@ impl<T: Member<NODES>, const NODES: usize> Links<T, NODES> {
         T::MEMBERS <= self.first(q).number() as usize
     }
 
-    // The first of queue q by the links on; where it is empty, a number that is no member.
-    fn first_by(next: &[u8; NODES], q: u32) -> u8
-        ensures { (prev : List ℕ) → IsFirst T.MEMBERS T.HEADS (tables next.now prev) q result }
+    // The first of queue q by the links on, which are units or bytes; where it is empty, a number that is no member.
+    fn first_by<U: Unit>(next: &[U; NODES], q: u32) -> U
+        ensures { (prev : List ℕ) → IsFirst T.MEMBERS T.HEADS (tables (map U.num next.now) prev) q (U.num result) }
     {
         if (q as usize) < T::HEADS {
             next[T::MEMBERS + q as usize]
         } else {
-            T::MEMBERS as u8
+            U::of(T::MEMBERS as u8)
         }
     }
 
-    // Whether queue q has n members or more, by the links on: those back are not read.
+    /// Whether queue q has n members or more, by the links on: those back are not read.
     pub fn at_least(next: &[u8; NODES], q: u32, n: u32) -> bool
         ensures { (prev : List ℕ) → SaysAtLeast T.MEMBERS T.HEADS (tables next.now prev) q n result }
     {
@@ -192,7 +197,7 @@ impl<T: Member<NODES>, const NODES: usize> Links<T, NODES> {
         true
     }
 
-    // Whether queue q has n members or more.
+    /// Whether queue q has n members or more.
     pub fn holds_at_least(self, q: u32, n: u32) -> bool
         ensures { SaysAtLeast T.MEMBERS T.HEADS (tables_of T.num self) q n result }
     {

@@ -11,7 +11,8 @@ use lib.ListN.{length, get_or, replicate, length-replicate, length-append}
 use borrow.Author.Tests.{lt-ltb, le-ltb}
 use Rattle.std.specs.Prelude.{if◌then◌else◌}
 use Rattle.lists.specs.Lists.{occurs, ahead}
-use Rattle.lists.proofs.Laws.{same?, le?, stands, ahead_split, zeros}
+use Rattle.std.proofs.lemmas.Bool.{cases_eq}
+use Rattle.lists.proofs.Laws.{le?, stands, ahead_split, zeros}
 use Rattle.plain.specs.Sizes.{processes, classes, mailboxes, semaphores, queues}
 use Rattle.rings.specs.Ring.{Tables, Absent, Rings}
 use Rattle.rings.proofs.Laws.{once, elsewhere, in_range, at_most_all}
@@ -68,7 +69,7 @@ module _ (next : List ℕ) (place first : ℕ) where
   swept-on (suc count) t p i h l o z = ⊎_elim
       (λ (e : i ≡ count). rw (← e) (noted-on _ _ (line next (first + i)) p (rw (swept-length i t) h) o ∙ omega arith))
       (λ (d : i ≢ count). noted_off _ _ (line next (first + count)) p (z count (λ e. d (sym e))) ∙ swept-on count t p i h (omega arith) o z)
-      (same? i count)
+      (cases_eq i count)
 
 -- ---- in tables that hold queues
 

@@ -9,13 +9,11 @@ use native.Mathlib.Omega.{arith}
 use lib.Dec.{ltb, eqb}
 use lib.ListN.{length, get_or, set, length-set}
 use lib.Seq.{get_or-set_same, get_or-set_other}
-use mir.Syntax.{w16}
-use mir.Val.{Fits}
 use borrow.Author.Tests.{eq-eqb, ne_eqb, lt-ltb}
 use Rattle.bits.specs.Word.{bit}
 use Rattle.std.specs.Prelude.{Some, None, is_some, unwrap_or, if◌then◌else◌}
 use Rattle.lists.specs.Lists.{ahead}
-use Rattle.lists.proofs.Laws.{same?}
+use Rattle.std.proofs.lemmas.Bool.{cases_eq}
 use Rattle.rings.proofs.Laws.{placed, elsewhere}
 use Rattle.plain.specs.Calls.{is_empty}
 use Rattle.plain.specs.Listing as Plain
@@ -37,15 +35,6 @@ use Rattle.rows.specs.declared.Row.{Row}
 use Rattle.rows.specs.declared.spots.Spot.{Spot}
 use Rattle.rows.specs.declared.Table.{Table}
 use Rattle.rows.proofs.Places.{spot_at, spot_in_lem, spot_none}
-
--- a length that is read fits where the lengths do
-pub length_fits : (k : Carries.Numbers) (p : ℕ) → ((i : ℕ) → Fits w16 (get_or k.length i 0)) → Fits w16 (length_in_hand k p)
-unfolding length_in_hand
-length_fits k p f = go (has_message k p)
-  where
-    go : (full : Bool) → Fits w16 (if full then length_at k (hand_at k p) else 0)
-    go true = f (hand_at k p)
-    go false = omega arith
 
 full_by : (m : Carries.Numbers) (p : ℕ) → bit (is_some (held_by m p)) ≡ bit (has_message m p)
 unfolding held_by
@@ -112,7 +101,7 @@ module _ {k : Kernel} {s : State} (H : Holds k s) (p : ℕ) where
   not_null = with_is (spot_of n p) ∙ ⊎_elim
       (λ (e : p ≡ s.procs.running). rw (H.procs.stands.running, eq-eqb p s.procs.running e, H.procs.stands.class p))
       (λ (d : p ≢ s.procs.running). rw (H.procs.stands.running, ne_eqb p s.procs.running d) resting)
-      (same? p s.procs.running)
+      (cases_eq p s.procs.running)
 
 module _ {k : Kernel} {s : State} (H : Holds k s) where
   runner : k.procs.running.0 ≡ s.procs.running
@@ -125,7 +114,7 @@ module _ {k : Kernel} {s : State} (H : Holds k s) where
   row_is p = ⊎_elim
       (λ (e : p ≡ 0). rw (e, runner))
       (λ (d : p ≢ 0). rw (ne_eqb p 0 d) (not_null H p))
-      (same? p 0)
+      (cases_eq p 0)
 
 -- the rows of a struct's numbers are those of the plain state that it holds
 pub shows : {k : Kernel} {t : Table} → Each (row_in k) t.rows → Shows k t
@@ -147,5 +136,5 @@ module _ (k : Kernel) (at : List ℕ) where
     at = λ p d h. ⊎_elim
         (λ (z : p ≡ 0). rw (z) (get_or-set_same l 0 r d (omega (arith, long)) ∙ null))
         (λ (m : p ≢ 0). rw (ne_eqb p 0 m) (get_or-set_other l 0 p r d m ∙ each p d h ∙ by_is found p h))
-        (same? p 0);
+        (cases_eq p 0);
   }

@@ -4,7 +4,6 @@
 
 ghost use Rattle.std.specs.Prelude.{◌≡◌};
 ghost use Rattle.mail.specs.Carries as Carries;
-ghost use Rattle.mail.specs.Moves.{length_in_hand};
 ghost use Rattle.rows.specs.Row.{bare};
 ghost use Rattle.rows.specs.Rows.{null_row, held_by, row_with, Shows};
 
@@ -15,7 +14,7 @@ use sizes::Pid;
 
 pub mod spots;
 
-// The places of a row: numbers, since C reads them in its first column.
+/// The places of a row: numbers, since C reads them in its first column.
 pub const UNUSED: u8 = 0;
 
 pub const RUNNING: u8 = 1;
@@ -29,18 +28,19 @@ pub const AT_SEMAPHORE: u8 = 4;
 pub const STANDING_BY: u8 = 5;
 
 #[repr(C)]
-#[derive(Clone, Copy)]
+#[derive(Clone, Copy, Default)]
 pub struct Row {
     pub place: u8,
     pub which: u8,
     pub position: u8,
     pub class: u8,
     pub ticks: u8,
+    /// 0 or 1, since C reads it.
     pub full: u8,
     pub length: u16,
 }
 
-// A row for each process, row i for process i.
+/// A row for each process, row i for process i. A type of its own, since the theorem OneTable is about it.
 #[derive(Clone, Copy)]
 pub struct Table {
     pub rows: [Row; sizes::PROCESSES],
@@ -52,12 +52,7 @@ fn bare(place: u8) -> Row
 {
     Row {
         place,
-        which: 0,
-        position: 0,
-        class: 0,
-        ticks: 0,
-        full: 0,
-        length: 0,
+        ..Row::default()
     }
 }
 
@@ -65,28 +60,18 @@ fn bare(place: u8) -> Row
 fn null_row(running: Pid) -> Row
     ensures { result ≡ null_row running.0 }
 {
-    if running.0 == 0 {
+    if running == Pid(0) {
         return bare(RUNNING);
     }
     bare(STANDING_BY)
 }
 
 // The length of the message in the hand of p, where there is one.
+#[tactic(auto, unfolding(crate::specs::Rows::held_by))]
 fn hand_of(mail: Mail, p: Pid) -> Option<u16>
     ensures { result ≡ held_by (Carries.numbers mail) p.0 }
 {
-    if mail.has_message(p) {
-        Some(length_in_hand(mail, p))
-    } else {
-        None
-    }
-}
-
-// The length of the message in the hand of p.
-fn length_in_hand(mail: Mail, p: Pid) -> u16
-    ensures { result ≡ length_in_hand (Carries.numbers mail) p.0 }
-{
-    mail.length_in_hand(p) as u16
+    mail.has_message(p).then_some(mail.length_in_hand(p))
 }
 
 fn row_with(s: Spot, class: u8, ticks: u8, hand: Option<u16>) -> Row
@@ -103,7 +88,7 @@ fn row_with(s: Spot, class: u8, ticks: u8, hand: Option<u16>) -> Row
     }
 }
 
-// The spots are found for all at once; then each row is made.
+/// The spots are found for all at once; then each row is made.
 pub fn table_of(k: Kernel) -> Table
     ensures { Shows k result }
 {

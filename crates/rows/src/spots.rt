@@ -1,5 +1,5 @@
 // Where everyone stands: every queue walked once from its head, and of each process that is met its place, which and position noted.
-// The links may lead anywhere.
+// The links may lead anywhere. A note is one word, as the walk writes it: place, which and position are taken apart where a row or a reason is made.
 ghost use Rattle.std.specs.Prelude.{◌+◌, ◌≤◌, map, ◌≡◌, eqb, get_or, if◌then◌else◌};
 ghost use Rattle.plain.specs.Sizes.{queues};
 ghost use Rattle.queues.specs.Queue.{num};
@@ -8,16 +8,13 @@ ghost use Rattle.rows.specs.Places.{spot, coded, spot_from, swept, everyone, spo
 
 use crate::{AT_MAILBOX, AT_SEMAPHORE, READY, RUNNING};
 use procs::Procs;
-use queues::bytes_of;
 use queues::notes::{ONE_AHEAD, note};
-use sizes::Pid;
-
-const PROCESSES: usize = sizes::PROCESSES;
-
-const NODES: usize = sizes::PROCESSES + sizes::QUEUES;
+use queues::{QUEUE_NODES, bytes_of};
+use sizes::{PROCESSES, Pid};
+use tables::{entry, set_entry};
 
 // So many stand in a queue at most.
-const MOST: u32 = sizes::PROCESSES as u32;
+const MOST: u32 = PROCESSES as u32;
 
 const CLASSES: u8 = sizes::CLASSES as u8;
 
@@ -29,7 +26,7 @@ const AT_MAILBOXES: u8 = sizes::AT_MAILBOXES as u8;
 
 const AT_SEMAPHORES: u8 = sizes::AT_SEMAPHORES as u8;
 
-// The first three columns of a row.
+/// The first three columns of a row: numbers, as C reads them there and as `spot`, `spot_from` and `spot_in` of specs/Places.antt say them.
 #[derive(Clone, Copy)]
 pub struct Spot {
     pub place: u8,
@@ -45,7 +42,7 @@ fn mark(place: u8, which: u8) -> u16
 }
 
 // Everyone in so many queues, from the first one on, gets this place.
-fn sweep(next: &[u8; NODES], at: &mut [u32; PROCESSES], place: u8, first: u8, count: u8)
+fn sweep(next: &[u8; QUEUE_NODES], at: &mut [u32; PROCESSES], place: u8, first: u8, count: u8)
     requires { first + count ≤ queues }
     ensures { at.new ≡ swept next.now place first count at.old }
 {
@@ -55,7 +52,7 @@ fn sweep(next: &[u8; NODES], at: &mut [u32; PROCESSES], place: u8, first: u8, co
 }
 
 // The spot of each process as one number, 0 where it stands in no queue.
-pub(crate) fn everyone(next: [Pid; NODES]) -> [u32; PROCESSES]
+pub(crate) fn everyone(next: [Pid; QUEUE_NODES]) -> [u32; PROCESSES]
     ensures { result ≡ everyone (map num next) }
 {
     let links = bytes_of(next);
@@ -77,22 +74,19 @@ pub(crate) fn spot_from(w: u32) -> Spot
     }
 }
 
-// Where p stands in the queues.
-pub fn spot_of(next: [Pid; NODES], p: Pid) -> Spot
+/// Where p stands in the queues.
+pub fn spot_of(next: [Pid; QUEUE_NODES], p: Pid) -> Spot
     ensures { result ≡ spot_in (map num next) p.0 }
 {
     let at = everyone(next);
-    spot_from(at.get(p.0 as usize).copied().unwrap_or(0))
+    spot_from(entry(&at, p.0 as usize, 0))
 }
 
 // With the spot of the one that runs, of that class.
 fn with_runner(mut at: [u32; PROCESSES], running: Pid, class: u8) -> [u32; PROCESSES]
     ensures { Spots (λ p. if eqb p running.0 then spot 1 class 0 else spot_from (get_or at p 0)) result }
 {
-    let i = running.0 as usize;
-    if i < PROCESSES {
-        at[i] = mark(RUNNING, class) as u32;
-    }
+    set_entry(&mut at, running.0 as usize, mark(RUNNING, class) as u32);
     at
 }
 

@@ -5,7 +5,7 @@ use mathlib.Core.Path.{◌≡◌, refl, sym, ap, subst, ◌∙◌}
 use mathlib.Core.List.{List, ◌∷◌}
 use mathlib.Core.Option.{Option, none, some}
 use Rattle.std.specs.Prelude as Code
-use Rattle.std.specs.Prelude.{Some, None, option_map}
+use Rattle.std.specs.Prelude.{option_map}
 use Rattle.plain.specs.Calls.{send}
 use Rattle.script.specs.Grammar.{does, words, bytes, given, sentence, order}
 use Rattle.script.specs.Request.{word_of, Tells}

@@ -9,7 +9,7 @@ use native.Mathlib.Omega.{arith}
 use lib.ListN.{length, get_or, drop, length-append}
 use borrow.Author.Tests.{le-leb, lt-leb}
 use Rattle.std.specs.Prelude as Code
-use Rattle.std.specs.Prelude.{if◌then◌else◌, Some, None, option_map, unwrap_or}
+use Rattle.std.specs.Prelude.{Some, None, option_map, unwrap_or}
 use Rattle.answers.specs.Ascii.{ascii}
 use Rattle.script.specs.Grammar.{hex_digit, byte, prepend, pairs, at_most, bytes, most_bytes, same}
 use Rattle.script.specs.Spelled.{spelled, or_zero}

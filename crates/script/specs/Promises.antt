@@ -1,7 +1,7 @@
 -- The words in which the private functions promise what they give.
 -- Assumes nothing.
 use Rattle.std.specs.Prelude as Code
-use Rattle.std.specs.Prelude.{ℕ, suc, List, [], ◌∷◌, length, eqb, if◌then◌else◌}
+use Rattle.std.specs.Prelude.{ℕ, List, [], ◌∷◌, length}
 use Rattle.std.proofs.Math.Option.{Option, none, some}
 use Rattle.plain.specs.Calls.{send}
 use Rattle.script.specs.Grammar.{Order, does, given, up_to, digits, highest_number, byte, hex_digit, bytes}

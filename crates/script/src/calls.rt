@@ -8,7 +8,7 @@ use crate::hex::count_bytes;
 use crate::numbers::read_number;
 use crate::words::cut;
 
-// A call that is lent nothing, with its numbers.
+/// A call that is lent nothing, with its numbers.
 #[derive(Clone, Copy)]
 pub enum Quiet {
     Create(u32),
@@ -24,7 +24,7 @@ pub enum Quiet {
     Wait(u32),
 }
 
-// Which order a line is: a call that is lent nothing, one that carries so many bytes, which the last of the line spell, two digits a byte, or one that is lent a room; why a process waits; or a fresh start with so many ticks to a slice.
+/// Which order a line is: a call that is lent nothing, one that carries so many bytes, which the last of the line spell, two digits a byte, or one that is lent a room; why a process waits; or a fresh start with so many ticks to a slice.
 #[derive(Clone, Copy)]
 pub enum Word {
     Call(Quiet),

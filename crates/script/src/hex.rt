@@ -56,7 +56,7 @@ pub(crate) fn count_bytes(w: &[u8]) -> Option<u32>
     }
 }
 
-// Writes the bytes that pairs spell at the start of out and gives how many there are. Where out is too short it writes nothing and gives 0.
+/// Writes the bytes that pairs spell at the start of out and gives how many there are. Where out is too short it writes nothing and gives 0: a number and no Option, since the promise, Written, speaks of that length.
 pub fn put_bytes(out: &mut [u8], w: &[u8]) -> usize
     ensures { Written (spelled w.now) out.old out.new result }
 {

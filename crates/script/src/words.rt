@@ -1,19 +1,11 @@
 // Where a line is cut into words. Assumes nothing.
-ghost use Rattle.std.specs.Prelude.{◌≡◌, ◌==◌, ◌∷◌, [], position, MatchOption};
-ghost use Rattle.answers.specs.Ascii.{space};
+ghost use Rattle.std.specs.Prelude.{◌≡◌, ◌∷◌, [], MatchOption};
 ghost use Rattle.script.specs.Grammar.{words};
-
-// The place of the first space.
-fn first_space(s: &[u8]) -> Option<usize>
-    ensures { result ≡ position (λ x. x == space) s.now }
-{
-    s.iter().position(|x| *x == b' ')
-}
 
 // The word before the first space, and what follows the space; none where the whole is one word.
 pub(crate) fn cut(s: &[u8]) -> Option<(&[u8], &[u8])>
     ensures { MatchOption result (words s.now ≡ s.now ∷ []) (λ c. words s.now ≡ c.0.now ∷ words c.1.now) }
 {
-    let end = first_space(s)?;
+    let end = s.iter().position(|x| *x == b' ')?;
     Some((&s[..end], &s[end + 1..]))
 }

@@ -10,7 +10,8 @@ use lib.ListN.{get_or}
 use lib.Dec.{eqb}
 use borrow.Author.Tests.{eq-eqb, ne_eqb}
 use Rattle.lists.specs.Lists.{put}
-use Rattle.lists.proofs.Laws.{same?, le?, put_other}
+use Rattle.std.proofs.lemmas.Bool.{cases_eq}
+use Rattle.lists.proofs.Laws.{le?, put_other}
 use Rattle.bits.specs.Word.{width, word, bits}
 use Rattle.bits.proofs.Words.{bits-word, bits_above}
 use Rattle.plain.specs.Sizes.{processes}
@@ -48,7 +49,7 @@ module _ (n running : ℕ) (at class ticks : List ℕ) (unused : ℕ) where
   each-asked s i h = ⊎_elim
       (λ (e : i ≡ 0). rw (e, vacant_null) s.null)
       (λ (e : i ≢ 0). rw (vacant_other i (omega arith) h) (asked (bits unused i) (s.others i h (omega arith))))
-      (same? i 0)
+      (cases_eq i 0)
     where
       asked : (b : Bool) → SeatOf i b → AskedOf i b
       asked true v = v.bare
@@ -57,7 +58,7 @@ module _ (n running : ℕ) (at class ticks : List ℕ) (unused : ℕ) where
   pub runner-used : unused < 2 ^ width → AllSeats n running at class ticks unused → bits unused running ≡ false
   runner-used low s = ⊎_elim
       (λ (h : processes ≤ running). bits_above width unused running low h)
-      (λ (h : running < processes). ⊎_elim (λ (e : running ≡ 0). rw e s.null_used) (λ (e : running ≢ 0). rests (bits unused running) (s.others running h (omega arith))) (same? running 0))
+      (λ (h : running < processes). ⊎_elim (λ (e : running ≡ 0). rw e s.null_used) (λ (e : running ≢ 0). rests (bits unused running) (s.others running h (omega arith))) (cases_eq running 0))
       (le? processes running)
     where
       rests : (b : Bool) → SeatOf running b → b ≡ false

@@ -3,7 +3,8 @@
 
 ghost use Rattle.std.specs.Prelude.{◌≡◌, ℕ};
 
-// A kind of things that are known by a number of one byte; such a number is one itself.
+/// A kind of things that are known by a number of one byte; such a number is one itself. No From and Into: the ghost member says of both ways
+/// which number it is.
 pub trait Unit: Copy {
     ghost num: { Self → ℕ };
 
@@ -14,7 +15,7 @@ pub trait Unit: Copy {
         ensures { num result ≡ n };
 }
 
-// A process and a buffer: "a place for one never takes the other". Either may hold any byte.
+/// A process and a buffer: "a place for one never takes the other". Either may hold any byte.
 #[derive(Clone, Copy, PartialEq, Eq)]
 pub struct Pid(pub u8);
 
@@ -59,11 +60,11 @@ impl Unit for Bid {
     }
 }
 
-// A word with a bit for each process, bit p for process p.
+/// A word with a bit for each process, bit p for process p.
 #[derive(Clone, Copy, PartialEq, Eq)]
 pub struct Pids(pub u32);
 
-// A word with a bit for each buffer, bit b for buffer b.
+/// A word with a bit for each buffer, bit b for buffer b.
 #[derive(Clone, Copy, PartialEq, Eq)]
 pub struct Bids(pub u32);
 
@@ -73,10 +74,16 @@ pub const CLASSES: usize = 5;
 
 pub const MAILBOXES: usize = 16;
 
-// Messages that a mailbox takes at the fresh start, and the most that one may be set to take.
+/// Messages that a mailbox takes at the fresh start, and the most that one may be set to take.
 pub const USUAL_CAPACITY: usize = 8;
 
 pub const MOST_QUEUED: usize = 32;
+
+/// The modes of a mailbox: full, it refuses what is sent to it, or drops its oldest message for it.
+/// Numbers, and no enum: the image has them as bytes, and a table of any bytes is answered for.
+pub const REFUSING: u8 = 0;
+
+pub const DROPPING: u8 = 1;
 
 pub const BUFFERS: usize = 32;
 
@@ -84,22 +91,22 @@ pub const BUFFER_SIZE: usize = 512;
 
 pub const STORE_SIZE: usize = BUFFERS * BUFFER_SIZE;
 
-// Bytes of a message at most: those of eight buffers.
+/// Bytes of a message at most: those of eight buffers.
 pub const LONGEST: usize = 4096;
 
 pub const SEMAPHORES: usize = 16;
 
 pub const HIGHEST_COUNT: usize = 65535;
 
-// Ticks of a full slice at most, and where none are named.
+/// Ticks of a full slice at most, and where none are named.
 pub const LONGEST_SLICE: usize = 255;
 
 pub const USUAL_SLICE: usize = 5;
 
-// A name is the number plus so many times its birth count, and returns after so many births.
+/// A name is the number plus so many times its birth count, and returns after so many births.
 pub const BIRTHS: usize = 256;
 
-// The queues of processes: the ready ones of class c are queue c; then come the waiters at the mailboxes, then those at the semaphores.
+/// The queues of processes: the ready ones of class c are queue c; then come the waiters at the mailboxes, then those at the semaphores.
 pub const AT_MAILBOXES: usize = CLASSES;
 
 pub const AT_SEMAPHORES: usize = CLASSES + MAILBOXES;

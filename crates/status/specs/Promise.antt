@@ -7,8 +7,7 @@ use Rattle.plain.specs.Sound.{Sound}
 use Rattle.plain.specs.State.{State}
 use Rattle.board.specs.Area.{Lies, IsSound}
 use Rattle.rows.specs.Row.{as_row}
-use Rattle.telling.specs.Promise.{not_sound, OfInput, Gives}
-use Rattle.telling.specs.declared.Told.{Told}
+use Rattle.telling.specs.Promise.{not_sound, OfInput, Told, Gives}
 use Rattle.wording.specs.Page.{page, page_room}
 
 -- the page of the plain kernel's names and rows, where a sound state lies in the area

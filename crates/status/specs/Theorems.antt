@@ -1,8 +1,7 @@
 -- The theorems about what is told, as statements. Each is proved under its own name in proofs/Theorems.antt.
 -- Assumes nothing.
 use Rattle.std.specs.Prelude.{ℕ, ◌≤◌, List, ◌≡◌, length, take}
-use Rattle.telling.specs.Promise.{long}
-use Rattle.telling.specs.declared.Told.{Told}
+use Rattle.telling.specs.Promise.{Told, long}
 use Rattle.wording.specs.Page.{page_room}
 use Rattle.status.specs.Promise.{Answers}
 

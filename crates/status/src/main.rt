@@ -5,12 +5,8 @@
 mod showing;
 
 use std::io;
-use telling::Told;
-use telling::streams::{read_full, write_line};
+use telling::streams::{INPUT, read_full, write_line};
 use wording::LONGEST_PAGE;
-
-// One byte more than a state area has, so that a longer input is seen as one of another length.
-const INPUT: usize = board::SIZE + 1;
 
 #[tactic(auto, using(answers::proofs::AreaLaws::written_within))]
 fn main(rt: HostRuntime) -> io::Result<()> {
@@ -19,7 +15,7 @@ fn main(rt: HostRuntime) -> io::Result<()> {
     let state = &area[..got];
     let mut out = [0u8; LONGEST_PAGE];
     match showing::tell(state, &mut out) {
-        Told::Answer(end) => rt.write_all(&out[..end]),
-        Told::Fault(end) => write_line(&mut io::writer(&rt.stderr()), &out[..end]),
+        Ok(end) => rt.write_all(&out[..end]),
+        Err(end) => write_line(&mut io::writer(&rt.stderr()), &out[..end]),
     }
 }

@@ -14,14 +14,15 @@ fn show(state: &[u8], out: &mut [u8]) -> Told
     };
     let births = image::read(state).births;
     let length = wording::put_page(out, births, rows);
-    Told::Answer(length)
+    Ok(length)
 }
 
 // Any area. Where the text does not fit into out, nothing is written there and the length is 0.
 pub(crate) fn tell(state: &[u8], out: &mut [u8]) -> Told
     ensures { Answers state.now out.old out.new result }
 {
-    if state.len() == 0 {
+    // Said here and in why: a function around both answers would take a closure, and with it a `requires`, which no public function has.
+    if state.is_empty() {
         return telling::no_state(out);
     }
     show(state, out)

@@ -8,8 +8,7 @@ use mathlib.Core.Path.{◌≡◌}
 use native.Mathlib.Omega.{arith}
 use lib.ListN.{length}
 use borrow.Author.Tests.{eq-eqb, ne_eqb}
-use Rattle.telling.specs.Promise.{no_state, Refused, OfInput, Gives, good}
-use Rattle.telling.specs.declared.Told.{Told}
+use Rattle.telling.specs.Promise.{no_state, Refused, OfInput, Told, Gives, good}
 
 pub gives_as : {room room' : ℕ} {Is Is' : Bool → List ℕ → Type 0} {old new : List ℕ} {r : Told} → room ≤ room' → ((good : Bool) (text : List ℕ) → Is good text → Is' good text) → Gives room Is old new r → Gives room' Is' old new r
 gives_as {r} h f g = record { text = g.text; is = f (good r) g.text g.is; short = omega (arith, g.short); written = g.written }

@@ -7,12 +7,10 @@ use mathlib.Core.Path.{◌≡◌, refl, ap}
 use native.Mathlib.Omega.{arith}
 use lib.Dec.{eqb}
 use lib.ListN.{length}
-use Rattle.std.specs.Prelude.{cond}
+use Rattle.std.specs.Prelude.{cond, Ok, Err}
 use Rattle.answers.proofs.AreaLaws.{written-whole, one_written}
 use Rattle.telling.specs.Theorems.{Same, One, OneTold, OneFault, TextFits}
-use Rattle.telling.specs.Promise.{no_state, Refused, refused, OfInput, good, long}
-use Rattle.telling.specs.declared.Told.{Told}
-use Rattle.telling.specs.declared.Told.TheVariants.{Answer, Fault}
+use Rattle.telling.specs.Promise.{no_state, Refused, refused, OfInput, Told, good, long}
 
 pub one_fault : OneFault
 one_fault words _ _ _ _ refused refused = record { good = refl; text = refl }
@@ -26,10 +24,10 @@ one_of_input area Is one good₁ good₂ text₁ text₂ a b = go (eqb (length a
     go false c d = one good₁ good₂ text₁ text₂ c d
 
 same_told : (r r' : Told) → good r ≡ good r' → long r ≡ long r' → r ≡ r'
-same_told (Answer n) (Answer m) e d = ap Answer d
-same_told (Answer n) (Fault m) e d = absurd (true≢false e)
-same_told (Fault n) (Answer m) e d = absurd (false≢true e)
-same_told (Fault n) (Fault m) e d = ap Fault d
+same_told (Ok n) (Ok m) e d = ap Ok d
+same_told (Ok n) (Err m) e d = absurd (true≢false e)
+same_told (Err n) (Ok m) e d = absurd (false≢true e)
+same_told (Err n) (Err m) e d = ap Err d
 
 pub one_told : OneTold
 one_told Is one room old new new' r r' a b =

@@ -1,10 +1,8 @@
 -- What is told, in a lent area: which text, whether it is what was asked for, and the faults that every question about a stored state has.
 -- Assumes nothing.
-use Rattle.std.specs.Prelude.{ℕ, ◌≤◌, Bool, true, false, List, eqb, length, cond}
+use Rattle.std.specs.Prelude.{ℕ, ◌≤◌, Bool, true, false, List, Result, Ok, Err, eqb, length, cond}
 use Rattle.answers.specs.Ascii.{ascii}
 use Rattle.answers.specs.Written.{Written}
-use Rattle.telling.specs.declared.Told.{Told}
-use Rattle.telling.specs.declared.Told.TheVariants.{Answer, Fault}
 
 -- ---- the faults
 
@@ -23,15 +21,18 @@ pub data Refused (words : List ℕ) : Bool → List ℕ → Type 0 where
 abbrev pub OfInput : List ℕ → (Bool → List ℕ → Type 0) → Bool → List ℕ → Type 0
 OfInput area Is good text = cond (eqb (length area) 0) (Refused no_state good text) (Is good text)
 
+abbrev pub Told : Type 0
+Told = Result ℕ ℕ
+
 -- whether a text is what was asked for
 abbrev pub good : Told → Bool
-good (Answer n) = true
-good (Fault n) = false
+good (Ok n) = true
+good (Err n) = false
 
 -- how many bytes the text takes
 abbrev pub long : Told → ℕ
-long (Answer n) = n
-long (Fault n) = n
+long (Ok n) = n
+long (Err n) = n
 
 -- the text that is meant, which a room of so many bytes takes, is written over the start of the area `old`
 pub record Gives (room : ℕ) (Is : Bool → List ℕ → Type 0) (old new : List ℕ) (r : Told) : Type 0 where

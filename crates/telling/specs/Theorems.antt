@@ -1,8 +1,7 @@
 -- The theorems about what is told, as statements. Each is proved under its own name in proofs/Theorems.antt.
 -- Assumes nothing.
 use Rattle.std.specs.Prelude.{ℕ, ◌≤◌, Bool, List, ◌≡◌, length, take}
-use Rattle.telling.specs.Promise.{Refused, Gives, long}
-use Rattle.telling.specs.declared.Told.{Told}
+use Rattle.telling.specs.Promise.{Refused, Told, Gives, long}
 
 -- the same text, and the same word on whether it is what was asked for
 pub record Same (good₁ good₂ : Bool) (text₁ text₂ : List ℕ) : Type 0 where

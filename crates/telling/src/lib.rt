@@ -6,20 +6,16 @@ pub mod streams;
 ghost use Rattle.std.specs.Prelude.{length};
 ghost use Rattle.telling.specs.Promise.{Refused, no_state, not_sound, Gives};
 
-// What was asked for or a fault, and how many bytes of the lent area the text takes.
-#[derive(Clone, Copy)]
-pub enum Told {
-    Answer(usize),
-    Fault(usize),
-}
+/// How many bytes of the lent area the text takes: an Ok's is what was asked for, an Err's a fault.
+pub type Told = Result<usize, usize>;
 
-// Each writes its text at the start of out, without a newline. Where out is too short, nothing is written there and the length is 0.
+// Each writes its text at the start of out, without a newline. Where out is too short, nothing is written there and the length is 0: a number and no Option, since the promise, Gives, speaks of that length.
 
 pub fn refuse(out: &mut [u8], words: &[u8]) -> Told
     ensures { Gives (length words.now) (Refused words.now) out.old out.new result }
 {
     let length = answers::area::put(out, words);
-    Told::Fault(length)
+    Err(length)
 }
 
 pub fn no_state(out: &mut [u8]) -> Told

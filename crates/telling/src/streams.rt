@@ -4,11 +4,15 @@ ghost use Rattle.std.specs.Io.KnownBytes.{Appends};
 
 use std::io;
 
-// Reads until the area is full or the input ends; gives how many bytes were read.
+/// One byte more than a state area has, so that a longer input is seen as one of another length.
+pub const INPUT: usize = board::SIZE + 1;
+
+/// Reads until the area is full or the input ends; gives how many bytes were read.
 pub fn read_full(reader: &mut impl io::Read, area: &mut [u8]) -> io::Result<usize>
     ensures { IfOk result (λ got. got ≤ length area.new) }
 {
     let mut at = 0;
+    // The loop steps by what a read gave, and no iterator is plainer.
     while at < area.len() {
         let got = reader.read(&mut area[at..])?;
         if got == 0 {
@@ -19,7 +23,7 @@ pub fn read_full(reader: &mut impl io::Read, area: &mut [u8]) -> io::Result<usiz
     Ok(at)
 }
 
-// The text and a newline behind it.
+/// The text and a newline behind it.
 pub fn write_line<W: io::Write>(to: &mut W, text: &[u8]) -> io::Result<()>
     ensures { OnOk result (Appends (W.contents to.old) (W.contents to.new) (text.now ++ (10 ∷ []))) }
 {

@@ -6,16 +6,16 @@ ghost use Rattle.boxes.specs.Box.{num};
 ghost use Rattle.rings.specs.Decides.{Decides};
 ghost use Rattle.waits.specs.Waits.{HandFits, LyingFits, WaitFits, AllFit, is_holding};
 
+use boxes::{BOX_NODES, bytes_of};
 use sizes::{BUFFERS, Bid, PROCESSES, Pid, Pids};
 
 // Places are 0 for none and queue number + 1: those of mailbox waiters begin here, those of semaphore waiters after them, and then there are no more.
+// Bytes, and no Option: one range of bytes says who waits at a mailbox, another who waits at a semaphore.
 const AT_MAILBOXES: u8 = sizes::AT_MAILBOXES as u8 + 1;
 
 const AT_SEMAPHORES: u8 = sizes::AT_SEMAPHORES as u8 + 1;
 
 const NO_PLACE: u8 = sizes::QUEUES as u8 + 1;
-
-const NODES: usize = sizes::BUFFERS + sizes::MAILBOXES;
 
 // Whether a process with this place may have a full hand: one that runs, is ready or waits at a semaphore.
 fn may_hold(place: u8, runs: bool) -> bool
@@ -29,7 +29,7 @@ fn may_hold(place: u8, runs: bool) -> bool
 }
 
 // Whether nothing lies, and nothing is counted, where a process with this place waits.
-fn lies_nothing(place: u8, next: &[u8; NODES], count: &[u16; sizes::SEMAPHORES]) -> bool
+fn lies_nothing(place: u8, next: &[u8; BOX_NODES], count: &[u16; sizes::SEMAPHORES]) -> bool
     ensures { Decides result (LyingFits place (is_holding next.now) (λ i. get_or count.now i 0)) }
 {
     match place {
@@ -47,7 +47,7 @@ fn wait_fits(
     place: u8,
     runs: bool,
     full: bool,
-    next: &[u8; NODES],
+    next: &[u8; BOX_NODES],
     count: &[u16; sizes::SEMAPHORES],
 ) -> bool
     ensures { Decides result (WaitFits place runs full (is_holding next.now) (λ i. get_or count.now i 0)) }
@@ -55,12 +55,12 @@ fn wait_fits(
     (!full || may_hold(place, runs)) && lies_nothing(place, next, count)
 }
 
-// Whether all of them do, and process 0 has an empty hand.
+/// Whether all of them do, and process 0 has an empty hand.
 pub fn all_fit(
     at: [u8; PROCESSES],
     running: Pid,
     full: Pids,
-    next: [Bid; NODES],
+    next: [Bid; BOX_NODES],
     count: [u16; sizes::SEMAPHORES],
 ) -> bool
     ensures { Decides result (AllFit at running.0 full.0 (map num next) count) }
@@ -68,12 +68,9 @@ pub fn all_fit(
     if bits::has_bit(full.0, 0) {
         return false;
     }
-    let links = boxes::bytes_of(next);
-    for p in 1..PROCESSES {
+    let links = bytes_of(next);
+    (1..PROCESSES).all(|p| {
         let runs = Pid(p as u8) == running;
-        if !wait_fits(at[p], runs, bits::has_bit(full.0, p as u32), &links, &count) {
-            return false;
-        }
-    }
-    true
+        wait_fits(at[p], runs, bits::has_bit(full.0, p as u32), &links, &count)
+    })
 }

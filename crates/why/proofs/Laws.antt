@@ -7,7 +7,7 @@ use mathlib.Core.Logic.{◌≢◌, ⊎_elim}
 use mathlib.Core.Path.{◌≡◌, refl, sym, ap, ◌∙◌}
 use native.Mathlib.Omega.{arith}
 use Rattle.std.specs.Prelude.{Option, Some, None, is_some}
-use Rattle.lists.proofs.Laws.{either}
+use Rattle.std.proofs.lemmas.Bool.{cases_Bool}
 use Rattle.plain.specs.Calls.{Answer}
 use Rattle.plain.specs.Names.{bare, names}
 use Rattle.plain.specs.Sizes.{processes}
@@ -49,10 +49,10 @@ unfolding why
 was_told s n r e = ⊎_elim
     (λ (y : names s.births n ≡ true). (y, ap (value r) (e ∙ told-reason s n y)))
     (λ (z : names s.births n ≡ false). absurd (some≢none (e ∙ rw z refl)))
-    (either (names s.births n))
+    (cases_Bool (names s.births n))
 
 not_told : (s : State) (n : ℕ) → None ≡ reason_told s n → names s.births n ≡ false
-not_told s n e = ⊎_elim (λ (y : names s.births n ≡ true). absurd (some≢none (sym (told-reason s n y) ∙ sym e))) (λ z. z) (either (names s.births n))
+not_told s n e = ⊎_elim (λ (y : names s.births n ≡ true). absurd (some≢none (sym (told-reason s n y) ∙ sym e))) (λ z. z) (cases_Bool (names s.births n))
 
 module _ (area : List ℕ) (n : ℕ) (w : Code.Explained) where
   abbrev Answered : Type 0
@@ -80,7 +80,7 @@ module _ (area : List ℕ) (n : ℕ) (w : Code.Explained) where
   is_not_sound e (Promise.sound i h) good text r = ⊎_elim
       (λ (y : names i.0.births n ≡ true). absurd (omega (arith, e, code_is h i.0 i.1 i.2, given i.0 n y)))
       (λ (z : names i.0.births n ≡ false). absurd (omega (arith, e, code_is h i.0 i.1 i.2, refused_with_1 i.0 n z)))
-      (either (names i.0.births n))
+      (cases_Bool (names i.0.births n))
   is_not_sound e (Promise.unsound d m a none) good text refused = unsound d
 
   pub is_nobody : w.answer.code ≢ 14 → w.reason ≡ None → Explains Lies area n w → (good : Bool) (text : List ℕ) → Refused no_process good text → Explained area n good text

@@ -11,8 +11,7 @@ use Rattle.script.specs.Grammar.{number}
 use Rattle.board.specs.Area.{Lies, IsSound}
 use Rattle.wording.specs.Promises.{room}
 use Rattle.wording.specs.Words.{sentence}
-use Rattle.telling.specs.Promise.{not_sound, Refused, OfInput, Gives}
-use Rattle.telling.specs.declared.Told.{Told}
+use Rattle.telling.specs.Promise.{not_sound, Refused, OfInput, Told, Gives}
 
 -- ---- the faults of its own
 

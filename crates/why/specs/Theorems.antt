@@ -2,8 +2,7 @@
 -- Assumes nothing.
 use Rattle.std.specs.Prelude.{ℕ, ◌≤◌, List, ◌≡◌, length, take}
 use Rattle.wording.specs.Promises.{room}
-use Rattle.telling.specs.Promise.{long}
-use Rattle.telling.specs.declared.Told.{Told}
+use Rattle.telling.specs.Promise.{Told, long}
 use Rattle.why.specs.Promise.{Answers}
 
 -- 1. No second text: for one word and one area, what meets the promise is equal.

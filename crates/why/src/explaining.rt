@@ -5,14 +5,14 @@ ghost use Rattle.why.specs.Promise.{Explained, Answers};
 
 use script::numbers::read_number;
 use telling::Told;
+use verdicts::Refusal;
 
 // The answer to the question, in words.
 fn explain(state: &[u8], name: u32, out: &mut [u8]) -> Told
     ensures { Gives room (Explained state.now name) out.old out.new result }
 {
     let w = board::why(state, name);
-    let a = w.answer;
-    if a.code == 14 {
+    if w.answer.code == Refusal::NotSound.code() {
         return telling::not_sound(out);
     }
     let Some(reason) = w.reason else {
@@ -23,13 +23,14 @@ fn explain(state: &[u8], name: u32, out: &mut [u8]) -> Told
     };
     let p = names::bare(name);
     let length = wording::put_sentence(out, p as u8, reason);
-    Told::Answer(length)
+    Ok(length)
 }
 
 fn about(state: &[u8], name: u32, out: &mut [u8]) -> Told
     ensures { Gives room (OfInput state.now (Explained state.now name)) out.old out.new result }
 {
-    if state.len() == 0 {
+    // Said here and in status: a function around both answers would take a closure, and with it a `requires`, which no public function has.
+    if state.is_empty() {
         return telling::no_state(out);
     }
     explain(state, name, out)

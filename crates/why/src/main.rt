@@ -6,15 +6,11 @@ mod explaining;
 
 use std::env::Env;
 use std::io;
-use telling::Told;
-use telling::streams::{read_full, write_line};
+use telling::streams::{INPUT, read_full, write_line};
 use wording::LONGEST;
 
 // Linux hands a program no longer word.
 const LONGEST_WORD: usize = 131072;
-
-// One byte more than a state area has, so that a longer input is seen as one of another length.
-const INPUT: usize = board::SIZE + 1;
 
 // The first word after the program's name, in the lent area; empty where there is no such word.
 fn first_word<'a>(rt: &impl Env, area: &'a mut [u8]) -> &'a [u8] {
@@ -33,7 +29,7 @@ fn main(rt: HostRuntime) -> io::Result<()> {
     let state = &area[..got];
     let mut out = [0u8; LONGEST];
     match explaining::tell(state, word, &mut out) {
-        Told::Answer(end) => write_line(&mut io::writer(&rt.stdout()), &out[..end]),
-        Told::Fault(end) => write_line(&mut io::writer(&rt.stderr()), &out[..end]),
+        Ok(end) => write_line(&mut io::writer(&rt.stdout()), &out[..end]),
+        Err(end) => write_line(&mut io::writer(&rt.stderr()), &out[..end]),
     }
 }

@@ -1,6 +1,5 @@
 pub mod PhraseLaws
 pub mod Length
 pub mod PageLaws
-pub mod AddsLaws
 pub mod Examples
 pub mod PageExamples

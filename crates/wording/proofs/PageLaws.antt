@@ -1,25 +1,29 @@
 -- Laws of a page: how long its lines can be, so that there is room for each, and that said piece by piece they are whole.
 -- Assumes nothing.
-use Prim.Native.Nat.{ℕ, zero, suc, ◌+◌, ◌-◌, ◌/◌, ◌^◌, ◌≤◌, ◌<◌}
-use mathlib.Core.Bool.{Bool, true, false}
-use mathlib.Core.List.{List, [], ◌∷◌, ◌++◌, append_assoc}
+use Prim.Native.Nat.{ℕ, zero, suc, ◌+◌, ◌-◌, ◌*◌, ◌^◌, ◌≤◌, ◌<◌}
+use mathlib.Core.Bool.{Bool, true, false, not}
+use mathlib.Core.List.{List, [], ◌∷◌, ◌++◌, append_assoc, append-nil}
 use mathlib.Core.Path.{◌≡◌, refl, sym, ap, ◌∙◌}
 use native.Mathlib.Omega.{arith}
 use native.Mathlib.Numerals.{add-one}
-use lib.Dec.{eqb, ltb}
-use lib.ListN.{length, length-append, replicate, length-replicate}
-use Rattle.std.specs.Prelude.{if◌then◌else◌}
+use lib.Dec.{eqb}
+use lib.ListN.{length, length-append, replicate, length-replicate, take}
+use lib.Seq.{take-length}
+use Rattle.std.specs.Prelude.{cond, if◌then◌else◌}
+use Rattle.std.specs.List.{count_by}
+use Rattle.std.proofs.lemmas.List.Sums.{sum_by_more}
 use Rattle.lists.specs.Lists.{total}
 use Rattle.lists.proofs.Laws.{total-same}
 use Rattle.plain.specs.Names as Names
 use Rattle.plain.specs.Sizes.{processes}
 use Rattle.answers.specs.Answer.{decimal}
 use Rattle.answers.specs.Ascii.{ascii, space}
-use Rattle.answers.proofs.TextLaws.{byte_short, decimal_short, decimal-length}
+use Rattle.answers.proofs.TextLaws.{byte_short, decimal_short, decimal_within}
+use Rattle.rows.specs.Row.{bare}
 use Rattle.rows.specs.declared.Row.{Row}
-use Rattle.wording.specs.Page.{newline, cell, order, queued, stands, bytes, in_hand, row_line, is_used, line_of, lines, unused_in, page}
-use Rattle.wording.specs.Promises.{room, more}
-use Rattle.wording.proofs.PhraseLaws.{more-more, more_fits}
+use Rattle.wording.specs.Page.{newline, cell, order, queued, stands, bytes, in_hand, header, row_line, is_used, line_of, lines, unused_in, unused_line, page, page_room, row_at}
+use Rattle.wording.specs.Promises.{room, cut, more}
+use Rattle.wording.proofs.PhraseLaws.{cut_cut, cut_fits, more-more, more_fits}
 
 -- ---- a text in a column
 
@@ -94,16 +98,9 @@ hand_short r s = go (eqb r.full 0)
 
 -- ---- the digits of a name
 
-digit-more : (n k : ℕ) → length (decimal (n / 10)) ≤ k → length (decimal n) ≤ suc k
-digit-more n k h = rw (decimal-length n) (go (ltb 0 (n / 10)))
-  where
-    go : (any : Bool) → length (if any then decimal (n / 10) else []) + 1 ≤ suc k
-    go true = omega (arith, h)
-    go false = omega arith
-
 -- a number of 16 bits has at most six
 name_short : (n : ℕ) → n < 2 ^ 16 → length (decimal n) ≤ 6
-name_short n h = digit-more n 5 (digit-more (n / 10) 4 (digit-more (n / 10 / 10) 3 (byte_short (n / 10 / 10 / 10) (omega arith))))
+name_short n h = decimal_within 6 n (omega arith) (omega arith) (omega arith)
 
 pub name_small : (births : ℕ → ℕ) (p : ℕ) → p < 2 ^ 8 → births p < 2 ^ 8 → Names.name births p < 2 ^ 16
 unfolding Names.name
@@ -151,17 +148,56 @@ pub lines_next : (name : ℕ → ℕ) (row : ℕ → Row) (i : ℕ) → lines (i
 unfolding lines
 lines_next name row i = rw add-one
 
-module _ (row : ℕ → Row) (i : ℕ) where
-  pub unused_next : unused_in (i + 1) row ≡ (if is_used (row i) then 0 else 1) + unused_in i row
-  unfolding total
-  unused_next = rw add-one
+-- ---- a page, said line by line
 
-  pub one_at_most : (if is_used (row i) then 0 else 1) ≤ 1
-  one_at_most = go (is_used (row i))
+module _ (name : ℕ → ℕ) (row : ℕ → Row) where
+  -- the header and the lines of the first i processes
+  abbrev upto : ℕ → List ℕ
+  upto i = header ++ lines i name row
+
+  -- so far the page is these, and each line is short
+  abbrev pub Said : ℕ → List ℕ → Type 0
+  Said i p = (p ≡ cut page_room [] (upto i)) × (length (upto i) ≤ (i + 1) * room)
+
+  pub header_said : {p l : List ℕ} → p ≡ cut page_room [] l → l ≡ header → length l ≤ room → Said 0 p
+  unfolding lines
+  header_said {p} {l} e d h =
+      let all : l ≡ upto 0 = d ∙ sym (append-nil header) in
+      let long : length (upto 0) ≡ length l = ap (λ (x : List ℕ). length x) (sym all) in
+      (e ∙ ap (cut page_room []) all, omega (arith, long, h))
+
+  pub line_said : (i : ℕ) {p next l : List ℕ} → Said i p → next ≡ cut page_room p l → l ≡ line_of name i (row i) → length l ≤ room → Said (i + 1) next
+  line_said i {p} {next} {l} s e d h =
+      let line : upto i ++ line_of name i (row i) ≡ upto (i + 1) = append_assoc header (lines i name row) (line_of name i (row i)) ∙ ap (λ (x : List ℕ). header ++ x) (sym (lines_next name row i)) in
+      let all : upto i ++ l ≡ upto (i + 1) = ap (λ (x : List ℕ). upto i ++ x) d ∙ line in
+      let long : length (upto (i + 1)) ≡ length (upto i) + length l = ap (λ (x : List ℕ). length x) (sym all) ∙ length-append (upto i) l in
+      (e ∙ ap (λ (x : List ℕ). cut page_room x l) s.0 ∙ cut_cut page_room [] (upto i) l ∙ ap (cut page_room []) all, omega (arith, long, s.1, h))
+
+  pub page_said : {p whole l : List ℕ} → Said processes p → whole ≡ cut page_room p l → l ≡ unused_line (unused_in processes row) → length l ≤ room → whole ≡ page name row
+  unfolding page
+  page_said {p} {whole} {l} s e d h =
+      let all : upto processes ++ l ≡ page name row = ap (λ (x : List ℕ). upto processes ++ x) d in
+      let short : length (upto processes ++ l) ≤ page_room = rw (length-append (upto processes) l) (omega (arith, s.1, h)) in
+      e ∙ ap (λ (x : List ℕ). cut page_room x l) s.0 ∙ cut_cut page_room [] (upto processes) l ∙ cut_fits page_room [] (upto processes ++ l) short ∙ all
+
+-- the rows of a table that are not in use are as many as its numbers of those unused say
+module _ (rows : List Row) where
+  abbrev unused : Row → Bool
+  unused r = not (is_used r)
+
+  counted_first : (i : ℕ) → i ≤ length rows → count_by unused (take i rows) ≡ unused_in i (row_at rows)
+  unfolding total
+  counted_first zero h = refl
+  counted_first (suc i) h =
+      let next : suc i ≡ i + 1 = omega arith in
+      ap (λ (n : ℕ). count_by unused (take n rows)) next ∙ sum_by_more (λ (r : Row). cond (unused r) 1 0) rows i (bare 0) (omega arith) ∙ omega (arith, counted_first i (omega arith), one (is_used (row_at rows i)))
     where
-      go : (used : Bool) → (if used then 0 else 1) ≤ 1
-      go true = omega arith
-      go false = omega arith
+      one : (used : Bool) → ◌≡◌ {A = ℕ} (cond (not used) 1 0) (if used then 0 else 1)
+      one true = refl
+      one false = refl
+
+  pub counted : count_by unused rows ≡ unused_in (length rows) (row_at rows)
+  counted = ap (count_by unused) (sym (take-length rows)) ∙ counted_first (length rows) (omega arith)
 
 -- ---- a page is what its rows are
 

@@ -6,100 +6,96 @@ ghost use Rattle.plain.specs.Names.{name};
 ghost use Rattle.wording.specs.Promises.{more};
 ghost use Rattle.wording.specs.Page.{cell, order, queued, stands, bytes, in_hand, row_line};
 
-use crate::phrase::Phrase;
+use crate::phrase::{LINE, Line, Phrase};
 use names::name_of;
 use rows::{AT_MAILBOX, AT_SEMAPHORE, READY, RUNNING, Row};
 use sizes::{PROCESSES, Pid};
 
-fn say_order(t: Phrase, n: u8) -> Phrase
-    ensures { result ≡ more t (order n) }
-{
-    if n == 0 {
-        return t.say(b"first");
+impl Phrase<LINE> {
+    fn say_order(self, n: u8) -> Line
+        ensures { result ≡ more self (order n) }
+    {
+        match n {
+            0 => self.say(b"first"),
+            _ => self.say_number(n).say(b" ahead"),
+        }
     }
-    t.say_number(n).say(b" ahead")
-}
 
-fn say_queued(t: Phrase, place: &[u8], x: u8, n: u8) -> Phrase
-    ensures { result ≡ more t (queued place.now x n) }
-{
-    let named = t.say(place).say_number(x);
-    say_order(named.say(b", "), n)
-}
-
-fn say_stands(t: Phrase, row: Row) -> Phrase
-    ensures { result ≡ more t (stands row) }
-{
-    if row.place == RUNNING {
-        return t.say(b"runs");
+    fn say_queued(self, place: &[u8], x: u8, n: u8) -> Line
+        ensures { result ≡ more self (queued place.now x n) }
+    {
+        let named = self.say(place).say_number(x);
+        named.say(b", ").say_order(n)
     }
-    if row.place == READY {
-        return say_queued(t, b"ready in class ", row.which, row.position);
+
+    fn say_stands(self, row: Row) -> Line
+        ensures { result ≡ more self (stands row) }
+    {
+        match row.place {
+            RUNNING => self.say(b"runs"),
+            READY => self.say_queued(b"ready in class ", row.which, row.position),
+            AT_MAILBOX => self.say_queued(b"at mailbox ", row.which, row.position),
+            AT_SEMAPHORE => self.say_queued(b"at semaphore ", row.which, row.position),
+            _ => self.say(b"stands by"),
+        }
     }
-    if row.place == AT_MAILBOX {
-        return say_queued(t, b"at mailbox ", row.which, row.position);
+
+    fn say_bytes(self, n: u16) -> Line
+        ensures { result ≡ more self (bytes n) }
+    {
+        match n {
+            1 => self.say(b"1 byte"),
+            _ => self.say_decimal(n as u32).say(b" bytes"),
+        }
     }
-    if row.place == AT_SEMAPHORE {
-        return say_queued(t, b"at semaphore ", row.which, row.position);
+
+    fn say_hand(self, row: Row) -> Line
+        ensures { result ≡ more self (in_hand row) }
+    {
+        if row.full == 0 {
+            return self.say(b"nothing");
+        }
+        self.say(b"a message of ").say_bytes(row.length)
     }
-    t.say(b"stands by")
-}
 
-fn say_bytes(t: Phrase, n: u16) -> Phrase
-    ensures { result ≡ more t (bytes n) }
-{
-    if n == 1 {
-        return t.say(b"1 byte");
+    fn say_cell(self, text: Line, width: usize) -> Line
+        ensures { result ≡ more self (cell width text) }
+    {
+        let text = text.text();
+        let mut line = self.say(text);
+        for _ in text.len()..width {
+            line = line.say(b" ");
+        }
+        line
     }
-    t.say_decimal(n as u32).say(b" bytes")
-}
 
-fn say_hand(t: Phrase, row: Row) -> Phrase
-    ensures { result ≡ more t (in_hand row) }
-{
-    if row.full == 0 {
-        return t.say(b"nothing");
+    fn say_number_cell(self, n: u8, width: usize) -> Line
+        ensures { result ≡ more self (cell width (decimal n)) }
+    {
+        self.say_cell(Line::new().say_number(n), width)
     }
-    say_bytes(t.say(b"a message of "), row.length)
-}
 
-fn say_cell(t: Phrase, text: Phrase, width: usize) -> Phrase
-    ensures { result ≡ more t (cell width text) }
-{
-    let text = text.text();
-    let mut line = t.say(text);
-    for _at in text.len()..width {
-        line = line.say(b" ");
+    fn say_place_cell(self, row: Row, width: usize) -> Line
+        ensures { result ≡ more self (cell width (stands row)) }
+    {
+        self.say_cell(Line::new().say_stands(row), width)
     }
-    line
+
+    fn say_name_cell(self, births: [u8; PROCESSES], p: Pid, width: usize) -> Line
+        ensures { result ≡ more self (cell width (decimal (name (count_in births) p.0))) }
+    {
+        let n = name_of(births, p);
+        self.say_cell(Line::new().say_decimal(n), width)
+    }
 }
 
-fn say_number_cell(t: Phrase, n: u8, width: usize) -> Phrase
-    ensures { result ≡ more t (cell width (decimal n)) }
-{
-    say_cell(t, Phrase::new().say_number(n), width)
-}
-
-fn say_place_cell(t: Phrase, row: Row, width: usize) -> Phrase
-    ensures { result ≡ more t (cell width (stands row)) }
-{
-    say_cell(t, say_stands(Phrase::new(), row), width)
-}
-
-fn say_name_cell(t: Phrase, births: [u8; PROCESSES], p: Pid, width: usize) -> Phrase
-    ensures { result ≡ more t (cell width (decimal (name (count_in births) p.0))) }
-{
-    let n = name_of(births, p);
-    say_cell(t, Phrase::new().say_decimal(n), width)
-}
-
-pub(crate) fn row_line(births: [u8; PROCESSES], process: u8, row: Row) -> Phrase
+pub(crate) fn row_line(births: [u8; PROCESSES], process: u8, row: Row) -> Line
     ensures { result ≡ row_line (name (count_in births)) process row }
 {
-    let who = say_number_cell(Phrase::new(), process, 9);
-    let named = say_name_cell(who, births, Pid(process), 7);
-    let place = say_place_cell(named, row, 30);
-    let class = say_number_cell(place, row.class, 7);
-    let ticks = say_number_cell(class, row.ticks, 12);
-    say_hand(ticks, row).say(b"\n")
+    let who = Line::new().say_number_cell(process, 9);
+    let named = who.say_name_cell(births, Pid(process), 7);
+    let place = named.say_place_cell(row, 30);
+    let class = place.say_number_cell(row.class, 7);
+    let ticks = class.say_number_cell(row.ticks, 12);
+    ticks.say_hand(row).say(b"\n")
 }

@@ -4,54 +4,58 @@ ghost use Rattle.reasons.specs.Reasons.{meant};
 ghost use Rattle.wording.specs.Promises.{more, Small};
 ghost use Rattle.wording.specs.Words.{ahead_of, waits_at, behind_class, stands_by, about};
 
-use crate::phrase::Phrase;
+use crate::phrase::{LINE, Line, Phrase};
 use reasons::Reason;
 
-fn say_ahead(t: Phrase, n: u8) -> Phrase
-    ensures { result ≡ more t (ahead_of n) }
-{
-    if n == 0 {
-        return t.say(b"It is next.");
+impl Phrase<LINE> {
+    fn say_ahead(self, n: u8) -> Line
+        ensures { result ≡ more self (ahead_of n) }
+    {
+        match n {
+            0 => self.say(b"It is next."),
+            1 => self.say(b"1 is ahead of it."),
+            _ => self.say_number(n).say(b" are ahead of it."),
+        }
     }
-    if n == 1 {
-        return t.say(b"1 is ahead of it.");
+
+    fn say_waits(self, word: &[u8], x: u8, n: u8) -> Line
+        ensures { result ≡ more self (waits_at word.now x n) }
+    {
+        let place = self.say(b" waits at ").say(word).say(b" ");
+        place.say_number(x).say(b". ").say_ahead(n)
     }
-    t.say_number(n).say(b" are ahead of it.")
-}
 
-fn say_waits(t: Phrase, word: &[u8], x: u8, n: u8) -> Phrase
-    ensures { result ≡ more t (waits_at word.now x n) }
-{
-    let place = t.say(b" waits at ").say(word).say(b" ");
-    say_ahead(place.say_number(x).say(b". "), n)
-}
-
-fn say_class(t: Phrase, n: u8) -> Phrase
-    ensures { result ≡ more t (behind_class n) }
-{
-    if n == 1 {
-        return t.say(b" is ready. 1 of its class is ahead of it: the one that runs.");
+    fn say_class(self, n: u8) -> Line
+        ensures { result ≡ more self (behind_class n) }
+    {
+        match n {
+            1 => self.say(b" is ready. 1 of its class is ahead of it: the one that runs."),
+            _ => {
+                let many = self.say(b" is ready. ").say_number(n);
+                many.say(b" of its class are ahead of it, the one that runs among them.")
+            }
+        }
     }
-    let many = t.say(b" is ready. ").say_number(n);
-    many.say(b" of its class are ahead of it, the one that runs among them.")
-}
 
-fn say_behind(t: Phrase, q: u8) -> Phrase
-    ensures { result ≡ more t (stands_by q) }
-{
-    let runner = t.say(b" is ready and waits while process ").say_number(q);
-    runner.say(b" runs.")
-}
+    fn say_behind(self, q: u8) -> Line
+        ensures { result ≡ more self (stands_by q) }
+    {
+        let runner = self
+            .say(b" is ready and waits while process ")
+            .say_number(q);
+        runner.say(b" runs.")
+    }
 
-pub(crate) fn say_about(t: Phrase, reason: Reason) -> Phrase
-    ensures { (result ≡ more t (about (meant reason))) × Small (meant reason) }
-{
-    match reason {
-        Reason::Unused => t.say(b" is not in use."),
-        Reason::Running => t.say(b" is running."),
-        Reason::Ready(n) => say_class(t, n),
-        Reason::Mailbox(x, n) => say_waits(t, b"mailbox", x, n),
-        Reason::Semaphore(x, n) => say_waits(t, b"semaphore", x, n),
-        Reason::Behind(q) => say_behind(t, q),
+    pub(crate) fn say_about(self, reason: Reason) -> Line
+        ensures { (result ≡ more self (about (meant reason))) × Small (meant reason) }
+    {
+        match reason {
+            Reason::Unused => self.say(b" is not in use."),
+            Reason::Running => self.say(b" is running."),
+            Reason::Ready(n) => self.say_class(n),
+            Reason::Mailbox(x, n) => self.say_waits(b"mailbox", x, n),
+            Reason::Semaphore(x, n) => self.say_waits(b"semaphore", x, n),
+            Reason::Behind(q) => self.say_behind(q),
+        }
     }
 }

@@ -1,7 +1,8 @@
 -- `chains::fresh` meets its contract. Assumes nothing.
-use Rattle.chains.proofs.Arrays.{own_is}
+use Rattle.std.proofs.Common.{◌∙◌, arith}
+use Rattle.bits.specs.Word.{width}
+use Rattle.rings.proofs.Looks.{own_in_bytes}
 use Rattle.chains.proofs.fresh.Goals as goal
-use borrow.Author.Rules.{rules}
 
 pub returns : goal.returns
-returns c = own_is c.from_fn.result c.from_fn.ensures.items.long (λ i h. search (rules, c.from_fn.ensures.items.at i (record { 0 = 0 }) h))
+returns c = c.own.ensures ∙ own_in_bytes width (omega arith)

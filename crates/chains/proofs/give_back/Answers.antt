@@ -16,9 +16,9 @@ loop-preserved c =
     let t = map num c.args.chain.now in
     let stored = ap (map num) c.set_entry.ensures ∙ store num l.chain l.x.0 l.x in
     record {
-      fits = word_fits _ c.with_bit-s.ensures;
+      fits = word_fits _ c.put_bit-s.ensures;
       links = give-links t c.args.n l.counter l.x.0 c.loop-test.true _ c.next-x.ensures _ _ stored ∙ l.invariant.links;
-      others = give-word t c.args.n l.counter l.x.0 c.loop-test.true _ c.next-x.ensures l.s _ c.with_bit-s.ensures ∙ l.invariant.others;
+      others = give-word t c.args.n l.counter l.x.0 c.loop-test.true _ c.next-x.ensures l.s _ c.put_bit-s.ensures ∙ l.invariant.others;
     }
 
 pub returns-clause-links : goal.returns-clause-links

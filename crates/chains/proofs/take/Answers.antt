@@ -19,7 +19,7 @@ pub loop-b-preserved : goal.loop-b-preserved
 loop-b-preserved c =
     let l = c.loop-b in
     let b = c.lowest_of-b in
-    let w = c.without_bit-s in
+    let w = c.put_bit-s in
     let any = sym c.any.ensures ∙ c.loop-b-test.true in
     record {
       fits = word_fits _ w.ensures;

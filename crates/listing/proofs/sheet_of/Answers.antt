@@ -2,16 +2,16 @@
 use Rattle.image.proofs.Types.{sized}
 use Rattle.listing.proofs.Sheets.{no_rows, all_rows}
 use Rattle.listing.proofs.sheet_of.Goals as goal
+use Rattle.std.specs.Prelude.{is_err}
 use Rattle.verdicts.proofs.Chained.{told_err, told_ok}
-use mathlib.Core.Path.{sym, ◌∙◌}
+use mathlib.Core.Path.{ap}
 
-pub returns-then-is_err : goal.returns-then-is_err
-returns-then-is_err c =
+pub returns-in-Ok : goal.returns-in-Ok
+returns-in-Ok c =
     let read = c.read-k in
-    no_rows _ (sized _ _ read.type_inv) read.ensures c.judge-v.ensures c.answer_found-answer.ensures (told_err c.judge-v.result (sym c.is_err.ensures.value ∙ c.if-is_err.true))
+    all_rows _ (sized _ _ read.type_inv) read.ensures c.judge-v.ensures c.answer_found-answer.ensures (told_ok c.judge-v.result (ap is_err c.in-Ok.is)) c.table_of.result c.table_of.ensures
 
-pub returns : goal.returns
-returns c =
+pub returns-in-Err : goal.returns-in-Err
+returns-in-Err c =
     let read = c.read-k in
-    all_rows _ (sized _ _ read.type_inv) read.ensures c.judge-v.ensures c.answer_found-answer.ensures (told_ok c.judge-v.result (sym c.is_err.ensures.value ∙ c.if-is_err.false))
-    c.table_of.result c.table_of.ensures
+    no_rows _ (sized _ _ read.type_inv) read.ensures c.judge-v.ensures c.answer_found-answer.ensures (told_err c.judge-v.result (ap is_err c.in-Err.is))

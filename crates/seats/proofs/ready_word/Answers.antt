@@ -18,4 +18,4 @@ pub loop-c-preserved : goal.loop-c-preserved
 loop-c-preserved c =
     let l = c.loop-c in
     let next = c.args.next in
-    c.bit_as-w.ensures ∙ (rw (get_or-map num next (processes + l.c) (record { 0 = 0 })) at (ready_more (map num next) l.c l.w l.invariant))
+    c.put_bit-w.ensures ∙ (rw (get_or-map num next (processes + l.c) (record { 0 = 0 })) at (ready_more (map num next) l.c l.w l.invariant))

@@ -2,14 +2,14 @@
 use Rattle.verdicts.proofs.Chained.{ends, goes_on}
 use Rattle.verdicts.proofs.on_mailbox.Goals as goal
 
-pub returns-in_err-on_tick : goal.returns-in_err-on_tick
-returns-in_err-on_tick c = ends _ _ _ _ c.from_residual.ensures.1 c.in_err-on_tick.ensures
+pub returns-in_err-sound : goal.returns-in_err-sound
+returns-in_err-sound c = ends _ _ _ _ c.from_residual.ensures.1 c.in_err-sound.ensures
 
 pub returns-in_err-refuse_if : goal.returns-in_err-refuse_if
-returns-in_err-refuse_if c = ends _ _ _ _ c.from_residual-in_err-refuse_if.ensures.1 (goes_on _ _ _ _ c.in_ok-on_tick.ensures c.in_err-refuse_if.ensures)
+returns-in_err-refuse_if c = ends _ _ _ _ c.from_residual-in_err-refuse_if.ensures.1 (goes_on _ _ _ _ c.in_ok-sound.ensures c.in_err-refuse_if.ensures)
 
 pub returns-in_err-refuse_if-2 : goal.returns-in_err-refuse_if-2
-returns-in_err-refuse_if-2 c = ends _ _ _ _ c.from_residual-in_err-refuse_if-2.ensures.1 (goes_on _ _ _ _ (goes_on _ _ _ _ c.in_ok-on_tick.ensures c.in_ok-refuse_if.ensures) (rw c.no_size.ensures at c.in_err-refuse_if-2.ensures))
+returns-in_err-refuse_if-2 c = ends _ _ _ _ c.from_residual-in_err-refuse_if-2.ensures.1 (goes_on _ _ _ _ (goes_on _ _ _ _ c.in_ok-sound.ensures c.in_ok-refuse_if.ensures) (rw c.no_size.ensures at c.in_err-refuse_if-2.ensures))
 
 pub returns : goal.returns
-returns c = goes_on _ _ _ _ (goes_on _ _ _ _ (goes_on _ _ _ _ c.in_ok-on_tick.ensures c.in_ok-refuse_if.ensures) (rw c.no_size.ensures at c.in_ok-refuse_if-2.ensures)) c.refuse_if-3.ensures
+returns c = goes_on _ _ _ _ (goes_on _ _ _ _ (goes_on _ _ _ _ c.in_ok-sound.ensures c.in_ok-refuse_if.ensures) (rw c.no_size.ensures at c.in_ok-refuse_if-2.ensures)) c.refuse_if-3.ensures

@@ -1,7 +1,8 @@
 -- `wording::put_reason_line` meets its contract.
 -- Assumes nothing.
-use Rattle.answers.specs.Answer.{answer}
 use Rattle.reasons.specs.Reasons.{meant}
+use Rattle.std.proofs.Common.{rules}
+use Rattle.verdicts.specs.Answer.{said}
 use Rattle.wording.proofs.Length.{reason-line-whole}
 use Rattle.wording.proofs.put_reason_line.Goals as goal
 use Rattle.wording.specs.Words.{reason_line}
@@ -9,7 +10,7 @@ use mathlib.Core.Path.{◌≡◌}
 
 pub returns : goal.returns
 returns c =
-    let a = answer c.args.code c.args.number c.args.running in
+    let a = said c.args.a in
     let whole : c.say_words.result ≡ reason_line a (meant c.args.reason) =
-    rw (c.say_words.ensures.0, c.say-line.ensures, c.line.ensures) (reason-line-whole a (meant c.args.reason) c.ranges.code.fits c.ranges.number.fits c.ranges.running.fits c.say_words.ensures.1) in
+    rw (c.say_words.ensures.0, c.say-line.ensures, c.line.ensures) (reason-line-whole a (meant c.args.reason) (search rules) (search rules) (search rules) c.say_words.ensures.1) in
     rw whole at c.put.ensures.written

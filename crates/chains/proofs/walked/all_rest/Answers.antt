@@ -3,17 +3,14 @@ use Rattle.bits.specs.Word.{bits}
 use Rattle.chains.proofs.walked.all_rest.Goals as goal
 use Rattle.chains.specs.Chained.{Alone}
 use Rattle.chains.specs.Links.{num}
-use Rattle.rings.proofs.Decisions.{decides_as, decides_more}
+use Rattle.rings.proofs.Folds.{decides_fold}
 use Rattle.rings.proofs.Units.{entry}
+use Rattle.std.proofs.Common.{rules}
 use mathlib.Core.List.{map}
-use mathlib.Core.Path.{refl, sym, ◌∙◌}
+use mathlib.Core.Path.{refl}
 
-pub loop-b-preserved : goal.loop-b-preserved
-loop-b-preserved c =
-    let l = c.loop-b in
-    let x = c.args in
-    let r = c.rests-all in
-    let h = c.in_byte.ensures c.loop-b-test.true in
-    let e = entry num (record { 0 = 0 }) refl x.chain.now l.b in
-    let P = Alone (map num x.chain.now) (bits x.free) in
-    decides_more P l.b l.all r.result l.invariant (decides_as (P l.b) r.result (λ f o. e ∙ f (h ∙ o)) (λ f o. sym e ∙ f (sym h ∙ o)) r.ensures)
+pub returns : goal.returns
+returns c =
+    let t = c.args.chain.now in
+    let e = entry num (record { 0 = 0 }) refl t in
+    decides_fold (Alone (map num t) (bits c.args.free)) c.fold.ensures.ran (λ i a b h k. search rules) (λ i a h o k. search (rules, e i)) (λ i h o k. search (rules, e i))

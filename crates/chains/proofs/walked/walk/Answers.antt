@@ -1,8 +1,13 @@
 -- `chains::walked::walk` meets its contract. Assumes nothing.
 use Rattle.chains.proofs.Reading.{reached_none, reached_on, reached_shut, reached_end, reached_open}
 use Rattle.chains.proofs.walked.walk.Goals as goal
+use Rattle.bits.specs.Word.{bits}
+use Rattle.chains.specs.Chained.{Walked}
+use Rattle.chains.specs.Links.{num}
+use Rattle.rings.proofs.Decisions.{decides, decides_then_some}
 use borrow.Author.Rules.{rules}
 use borrow.Author.Tests.{eqb-true, eqb-false}
+use mathlib.Core.List.{map}
 use mathlib.Core.Path.{◌≡◌, refl, sym, ◌∙◌}
 use native.Mathlib.Omega.{arith}
 
@@ -17,16 +22,13 @@ returns-then-not-has_bit c =
 pub loop-preserved : goal.loop-preserved
 loop-preserved c =
     let l = c.loop in
-    record { byte = search rules; reached = reached_on _ _ _ l.counter l.x.0 l.last.0 l.left l.invariant.reached (sym c.has_bit.ensures ∙ c.if-not-has_bit.false) _ c.without_bit-left.ensures _ c.next-x.ensures }
+    record { byte = search rules; reached = reached_on _ _ _ l.counter l.x.0 l.last.0 l.left l.invariant.reached (sym c.has_bit.ensures ∙ c.if-not-has_bit.false) _ c.put_bit-left.ensures _ c.next-x.ensures }
 
-pub returns-then-eq : goal.returns-then-eq
-returns-then-eq c =
+pub returns : goal.returns
+returns c =
     let l = c.loop in
     let all : l.counter ≡ c.args.n = omega arith in
-    rw (← all) (reached_end _ _ _ l.counter l.x.0 l.last.0 l.left l.invariant.reached (eqb-true _ _ (sym c.eq.ensures ∙ c.if-eq.true)))
-
-pub returns-else-eq : goal.returns-else-eq
-returns-else-eq c =
-    let l = c.loop in
-    let all : l.counter ≡ c.args.n = omega arith in
-    rw (← all) (reached_open _ _ _ l.counter l.x.0 l.last.0 l.left l.invariant.reached (eqb-false _ _ (sym c.eq.ensures ∙ c.if-eq.false)))
+    rw (c.then_some.ensures, ← all) (decides_then_some (Walked (map num c.args.chain.now) l.counter c.args.b.0 (bits c.args.todo)) c.eq.result l.left
+    (reached_end _ _ _ l.counter l.x.0 l.last.0 l.left l.invariant.reached)
+    (reached_open _ _ _ l.counter l.x.0 l.last.0 l.left l.invariant.reached)
+    (decides c.eq.result (λ e. eqb-true _ _ (sym c.eq.ensures ∙ e)) (λ e. eqb-false _ _ (sym c.eq.ensures ∙ e))))

@@ -28,7 +28,7 @@ returns-then-is_empty_box c = accepted_plainly (Plain.receive _) c.in_default.fi
     let e : a.m % 16 ≡ a.m = omega (arith, low) in
     let none : s.box a.m ≡ [] = nobody _ (not-true _ (sym (empty_box H.mail a.m) ∙ (sym c.is_empty_box.ensures ∙ c.if-is_empty_box.true))) in
     rw none (gives 32 0 [] _ c.answer.ensures (rw c.with_procs.ensures
-    (moved_holds H (rw (c.go_to.ensures, e, c.facts-f.ensures.slice) (gone_kept H S (at_mailbox a.m) (eqb-false _ _ x.0) (omega arith) (omega (arith, low))))))))
+    (moved_holds H (rw (c.go_to.ensures, c.waiters_at_mailbox.ensures, e, c.facts-f.ensures.slice) (gone_kept H S (at_mailbox a.m) (eqb-false _ _ x.0) (omega arith) (omega (arith, low))))))))
 
 pub returns : goal.returns
 unfolding Plain.perform Plain.refusals

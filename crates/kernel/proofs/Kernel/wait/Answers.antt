@@ -22,7 +22,7 @@ returns-then-count_of-eq0 c = accepted_plainly (Plain.wait _) c.in_default.field
     let e : a.i % 16 ≡ a.i = omega (arith, low) in
     let none : s.count a.i ≡ 0 = sym (H.counts.each a.i) ∙ (sym c.count_of.ensures ∙ c.if-count_of-eq0.true) in
     rw none (gives 32 0 [] _ c.answer.ensures (rw c.with_procs.ensures
-    (moved_holds H (rw (c.go_to.ensures, e, c.facts-f.ensures.slice) (gone_kept H S (at_semaphore a.i) (eqb-false _ _ x.0) (omega arith) (omega (arith, low))))))))
+    (moved_holds H (rw (c.go_to.ensures, c.waiters_at_semaphore.ensures, e, c.facts-f.ensures.slice) (gone_kept H S (at_semaphore a.i) (eqb-false _ _ x.0) (omega arith) (omega (arith, low))))))))
 
 pub returns : goal.returns
 unfolding Plain.perform Plain.refusals

@@ -15,5 +15,5 @@ returns-in-Err c = refused_plainly Plain.yield c.in-Err.r (judged_yield c.facts-
 pub returns : goal.returns
 unfolding Plain.perform Plain.refusals
 returns c = accepted_plainly Plain.yield c.in_default.field-0 (judged_yield c.facts-f.ensures c.in_default.ensures) (λ s H S x.
-    gives 0 0 [] _ c.answer.ensures (rw c.with_procs.ensures
+    gives 0 0 [] _ c.answer.ensures (rw c.with_procs-next.ensures
     (moved_holds H (rw (c.yield_now.ensures, c.facts-f.ensures.slice, slice_is H) (yielded_kept H.procs (slice_some s S) S.seated S.highest (eqb-false _ _ x.0))))))

@@ -1,5 +1,5 @@
 -- `rows::spots::spots_of` meets its contract. Assumes nothing.
-use Rattle.lists.proofs.Laws.{same?}
+use Rattle.std.proofs.lemmas.Bool.{cases_eq}
 use Rattle.procs.specs.Stands as Stands
 use Rattle.queues.specs.Queue.{tables_of}
 use Rattle.rows.proofs.spots.spots_of.Goals as goal
@@ -16,4 +16,4 @@ returns c p h =
     c.with_runner.ensures p h ∙ ⊎_elim
     (λ (e : p ≡ r). rw (eq-eqb p r e, e, c.class_of.ensures))
     (λ (d : p ≢ r). rw (ne_eqb p r d, c.everyone.ensures))
-    (same? p r)
+    (cases_eq p r)

@@ -1,5 +1,5 @@
 -- `rows::spots::with_runner` meets its contract. Assumes nothing.
-use Rattle.lists.proofs.Laws.{same?}
+use Rattle.std.proofs.lemmas.Bool.{cases_eq}
 use Rattle.plain.specs.Sizes.{processes}
 use Rattle.rows.proofs.Places.{decoded}
 use Rattle.rows.proofs.spots.with_runner.Goals as goal
@@ -11,12 +11,12 @@ use mathlib.Core.Logic.{◌≢◌, ⊎_elim}
 use mathlib.Core.Path.{◌≡◌}
 use native.Mathlib.Omega.{arith}
 
-pub returns-then-i-lt-PROCESSES : goal.returns-then-i-lt-PROCESSES
-returns-then-i-lt-PROCESSES c p h =
+pub returns : goal.returns
+returns c p h =
     let a = c.args in
     let long : length a.at ≡ processes = search rules in
     let m = c.mark.ensures in
     ⊎_elim
-    (λ (e : p ≡ a.running.0). rw (eq-eqb p a.running.0 e, e, get_or-set_same a.at a.running.0 c.mark.result 0 (omega arith), m) (decoded 1 a.class 0 (omega arith) (search rules) (omega arith)))
-    (λ (d : p ≢ a.running.0). rw (ne_eqb p a.running.0 d, get_or-set_other a.at a.running.0 p c.mark.result 0 d))
-    (same? p a.running.0)
+    (λ (e : p ≡ a.running.0). rw (c.set_entry.ensures, eq-eqb p a.running.0 e, e, get_or-set_same a.at a.running.0 c.mark.result 0 (omega arith), m) (decoded 1 a.class 0 (omega arith) (search rules) (omega arith)))
+    (λ (d : p ≢ a.running.0). rw (c.set_entry.ensures, ne_eqb p a.running.0 d, get_or-set_other a.at a.running.0 p c.mark.result 0 d))
+    (cases_eq p a.running.0)

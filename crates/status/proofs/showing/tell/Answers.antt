@@ -3,14 +3,17 @@
 use Rattle.status.proofs.showing.tell.Goals as goal
 use Rattle.status.specs.Promise.{Shown}
 use Rattle.telling.proofs.Laws.{gives_as, of_none, of_some}
+use Rattle.std.proofs.Common.{rules, ◌≡◌, length}
 use native.Mathlib.Omega.{arith}
 
-pub returns-then-state-eq0 : goal.returns-then-state-eq0
-returns-then-state-eq0 c =
+pub returns-then-is_empty : goal.returns-then-is_empty
+returns-then-is_empty c =
     let area = c.args.state.now in
-    gives_as (omega arith) (of_none area (Shown area) c.if-state-eq0.true) c.no_state.ensures
+    let none : length area ≡ 0 = search rules in
+    gives_as (omega arith) (of_none area (Shown area) none) c.no_state.ensures
 
 pub returns : goal.returns
 returns c =
     let area = c.args.state.now in
-    gives_as (omega arith) (of_some area (Shown area) c.if-state-eq0.false) c.show.ensures
+    let some : length area ≡ 0 → ⊥ = search rules in
+    gives_as (omega arith) (of_some area (Shown area) some) c.show.ensures

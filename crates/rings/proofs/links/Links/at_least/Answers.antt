@@ -1,5 +1,6 @@
 -- `rings::links::Links::at_least` meets its contract. The invariant: what is left of the walk tells what the whole walk tells. Assumes nothing.
 use Rattle.std.proofs.Common.{◌≡◌, ◌+◌, ◌-◌, arith}
+use Rattle.std.proofs.lemmas.List.{map-id}
 use Rattle.rings.proofs.Looks.{reaches-on, reaches_end, reaches-done, says_too_many, says_walked}
 use Rattle.rings.specs.Walk.{tables}
 use Rattle.rings.proofs.links.Links.at_least.Goals as goal
@@ -10,7 +11,9 @@ returns-then-MEMBERS-n g c = λ prev. says_too_many (omega arith)
 pub loop-init : goal.loop-init
 loop-init g c =
     let e : c.args.n - 0 ≡ c.args.n = omega arith in
-    λ prev. rw ((c.first_by-p.ensures prev).whole, e)
+    λ prev.
+    let first = rw (map-id c.args.next.now) at (c.first_by-p.ensures prev).whole in
+    rw (first, e)
 
 pub returns-then-MEMBERS-p : goal.returns-then-MEMBERS-p
 returns-then-MEMBERS-p g c =

@@ -1,14 +1,9 @@
--- `rings::links::Links::fresh` meets its contract. The invariant: the first i entries are 0 to i - 1. Assumes nothing.
-use Rattle.std.proofs.Common.{◌∙◌, length-set, arith}
-use Rattle.rings.proofs.Units.{own-set, made_own}
+-- `rings::links::Links::fresh` meets its contract. Assumes nothing.
+use Rattle.std.proofs.Common.{arith}
+use Rattle.rings.proofs.Units.{fresh_own}
 use Rattle.rings.proofs.links.Links.fresh.Goals as goal
-
-pub loop-i-preserved : goal.loop-i-preserved
-loop-i-preserved g c =
-    let l = c.loop-i in
-    (length-set l.own l.i c.of.result ∙ l.invariant.0, own-set g.T.Unit.num l.own l.i c.of.result c.of.ensures (omega arith) l.invariant.1)
 
 pub returns : goal.returns
 returns g c =
-    let room = g.T.Member.nodes in
-    made_own g.T.Unit.num c.loop-i.own (omega arith) (λ i h. c.loop-i.invariant.1 i (omega arith))
+    let few = g.T.Member.few in
+    fresh_own g.T.Unit.num c.own-alone.result c.own-alone.ensures g.T.Member.nodes (omega arith)
