@@ -1,18 +1,16 @@
 -- Laws of an area: a text laid over its start, byte by byte, and what stands where it does not fit.
 -- Assumes nothing.
-use Prim.Native.Nat.{ℕ, suc, ◌+◌, ◌/◌, ◌%◌, ◌≤◌, ◌<◌}
+use Prim.Native.Nat.{ℕ, suc, ◌+◌, ◌-◌, ◌/◌, ◌%◌, ◌≤◌, ◌<◌}
 use mathlib.Core.Bool.{Bool, true, false}
 use mathlib.Core.Path.{◌≡◌, refl, sym, subst, ◌∙◌}
-use mathlib.Core.List.{List, [], ◌∷◌, ◌++◌, append_assoc}
+use mathlib.Core.List.{List, [], ◌∷◌, ◌++◌, append_assoc, append-nil}
 use native.Mathlib.Omega.{arith}
 use native.Mathlib.Numerals.{add-one}
 use lib.Dec.{leb}
 use lib.ListN.{length, get_or, set, take, drop, length-append}
-use lib.Seq.{drop-cons, drop-drop, set-append_seam, take-suc, take-append_seam, drop-append_seam, length-take-le}
+use lib.Seq.{drop-cons, drop-drop, set-append_seam, take-suc, take-append_seam, drop-append_seam, take-length, drop-length, length-take-le}
 use borrow.Author.Tests.{leb-true, le-leb, lt-leb}
 use Rattle.std.specs.Prelude.{if◌then◌else◌}
-use Rattle.std.proofs.lemmas.List.FromFn.{get_or-map-range_with_len}
-use Rattle.hex.specs.Hex.{encode_lower, encode_with, lower_digits}
 use Rattle.answers.specs.Answer.{hex_of, hex_pairs}
 use Rattle.answers.specs.Written.{laid, Written}
 
@@ -41,17 +39,18 @@ pub pairs-length : (l : List ℕ) → length (hex_pairs l) ≡ length l + length
 pairs-length [] = refl
 pairs-length (x ∷ l) = omega (arith, pairs-length l)
 
--- hex's digits, computed
-hex-digit : (d : ℕ) → d < 16 → get_or lower_digits d 0 ≡ hex_of d
-hex-digit d h = get_or-map-range_with_len hex_of 0 16 d d 0 h (omega arith)
+pairs-append : (a b : List ℕ) → hex_pairs (a ++ b) ≡ hex_pairs a ++ hex_pairs b
+pairs-append [] b = refl
+pairs-append (x ∷ a) b = rw (pairs-append a b)
 
--- the pairs of bytes are what hex writes for them
-pub pairs-encoded : (l : List ℕ) → ((i : ℕ) → get_or l i 0 < 256) → encode_lower l ≡ hex_pairs l
-unfolding encode_with
-pairs-encoded [] bytes = refl
-pairs-encoded (x ∷ l) bytes =
-    let byte : x < 256 = bytes 0 in
-    rw (hex-digit (x / 16) (omega arith), hex-digit (x % 16) (omega arith), pairs-encoded l (λ i. bytes (suc i))) refl
+module _ (o s : List ℕ) (i at : ℕ) (inside : i < length s) (even : at ≡ i + i) (room : length s + length s ≤ length o) where
+  pub laid_pair : set (set (laid (hex_pairs (take i s)) o) at (hex_of (get_or s i 0 / 16))) (at + 1) (hex_of (get_or s i 0 % 16)) ≡ laid (hex_pairs (take (i + 1) s)) o
+  laid_pair =
+      let p = hex_pairs (take i s) in
+      let h = hex_of (get_or s i 0 / 16) in
+      let l = hex_of (get_or s i 0 % 16) in
+      let long : at ≡ length p = even ∙ sym (pairs-length (take i s) ∙ rw (length-take-le i s (omega arith))) in
+      rw (laid_more p o at h long (omega arith), laid_more (p ++ (h ∷ [])) o (at + 1) l (simp length-append (omega arith)) (omega arith), one_more o s i inside, pairs-append (take i s) (get_or s i 0 ∷ [])) (simp append_assoc)
 
 -- ---- what is written, by the text and the area
 
@@ -79,8 +78,13 @@ module _ {l o new : List ℕ} {count : ℕ} (w : Written l o new count) where
       let counted : count ≡ length l = rw (le-leb (length l) (length o) h) at w.counted in
       rw (counted, written_fits l o new count w h) (take-append_seam l (drop (length l) o))
 
--- b over as much of x behind a, where x is the area with a laid over it
-pub laid_behind : (a b o x : List ℕ) (k : ℕ) → x ≡ laid a o → k ≡ length b → take (length a) x ++ (b ++ drop k (drop (length a) x)) ≡ laid (a ++ b) o
-laid_behind a b o x k ex ek =
+-- b laid over the part of x from n on, of k bytes, where x is the area with a laid over it
+pub laid_behind : (a b o x y : List ℕ) (n k : ℕ) → x ≡ laid a o → n ≡ length a → k ≡ length x - n → y ≡ laid b (take k (drop n x)) → take n x ++ (y ++ drop k (drop n x)) ≡ laid (a ++ b) o
+laid_behind a b o x y n k ex en ek ey =
     let d : List ℕ = drop (length a) o in
-    rw (ex, ek, take-append_seam a d, drop-append_seam a d, drop-drop (length b) (length a) o, length-append a b) (simp append_assoc)
+    let head : take n x ≡ a = rw (ex, en) (take-append_seam a d) in
+    let tail : drop n x ≡ d = rw (ex, en) (drop-append_seam a d) in
+    let size : k ≡ length d = ek ∙ rw (ex, en, length-append a d) (omega arith) in
+    let all : take k (drop n x) ≡ d = rw (tail, size) (take-length d) in
+    let gone : drop k (drop n x) ≡ [] = rw (tail, size) (drop-length d) in
+    rw (head, ey, all, gone, drop-drop (length b) (length a) o, length-append a b) (simp (append_assoc, append-nil))

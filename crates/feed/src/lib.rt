@@ -10,6 +10,7 @@ ghost use Rattle.feed.specs.Takes.{FromFresh, Feeds, GoesOn, Finishes};
 ghost use Rattle.feed.specs.Promises.{AnsweredBehind, fed_so_far};
 
 use desk::{Desk, LONGEST_TEXT, Turn};
+use memchr::memchr;
 use script::LONGEST_LINE;
 
 const NEWLINE: u8 = b'\n';
@@ -138,7 +139,7 @@ pub fn feed(
             return so_far(t, held, used);
         }
         let rest = &chunk[used..];
-        let Some(n) = rest.iter().position(|b| *b == NEWLINE) else {
+        let Some(n) = memchr(NEWLINE, rest) else {
             return so_far(t, append(line, held, rest), chunk.len());
         };
         held = append(line, held, &rest[..n]);

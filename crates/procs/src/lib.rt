@@ -211,6 +211,14 @@ impl Procs {
         self.set_class(p, class).make_ready(p, slice).mark(p, false)
     }
 
+    // The same as `leave`, by itself: taken in, it adds its frame to that of a signal, for which docs/BOARD.md has a bound.
+    #[inline(never)]
+    fn taken_out(self, q: u32, p: Pid) -> Procs
+        ensures { numbers result ≡ gone q p.0 (numbers self) }
+    {
+        self.leave(q, p)
+    }
+
     /// The first of queue q leaves it and is made ready; where nobody stands there, nothing changes.
     pub fn wake(self, q: u32, slice: u8) -> Procs
         ensures { numbers result ≡ woken slice q (numbers self) }
@@ -219,7 +227,7 @@ impl Procs {
         if w.0 >= PROCESSES {
             return self;
         }
-        self.leave(q, w).make_ready(w, slice)
+        self.taken_out(q, w).make_ready(w, slice)
     }
 
     /// The running process joins the rear of queue q with a full slice, and one is chosen.

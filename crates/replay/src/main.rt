@@ -29,6 +29,19 @@ struct Session {
 
 // What is read lies in an area beside the session, since a chunk of it is handed over while the session changes.
 impl Session {
+    // Before the first byte. By itself, so that the zeros that a session is made of are gone from the stack once it is there.
+    #[inline(never)]
+    fn fresh() -> Session
+        ensures { FromFresh result.ongoing }
+    {
+        Session {
+            ongoing: Ongoing::fresh(),
+            store: [0; STORE_SIZE],
+            line: [0; LONGEST_LINE],
+            out: [0; OUT_SIZE],
+        }
+    }
+
     // A chunk is handed over until none of it is left. Each time what was answered is written, so that it is there before more is read.
     fn chunk(&mut self, to: &impl Print, bytes: &[u8]) -> io::Result<()>
         ensures ok { IfOk result (λ _. Hands self.old bytes.now self.new) }
@@ -86,18 +99,15 @@ impl Session {
         Ok(())
     }
 
-    // Every read, and then the end of the input.
-    fn whole_input(
-        &mut self,
-        reader: &mut impl io::Read,
-        to: &impl Print,
-        input: &mut [u8],
-    ) -> io::Result<Turn>
+    // Every read, and then the end of the input. By itself too: the area that is read into is not there while a session is made.
+    #[inline(never)]
+    fn whole_input(&mut self, reader: &mut impl io::Read, to: &impl Print) -> io::Result<Turn>
         requires { FromFresh self.old.ongoing }
         ensures ok { IfOk result (λ last. WholeReplay self.new.store last) }
         ensures err { OnErr result (BreaksInput self.old self.new) }
     {
-        self.every_turn(reader, to, input)?;
+        let mut input = [0; OUT_SIZE];
+        self.every_turn(reader, to, &mut input)?;
         let last = feed::finish(self.ongoing, &mut self.store, &self.line, &mut self.out);
         to.write_all(&self.out[..last.length])?;
         Ok(last)
@@ -105,13 +115,7 @@ impl Session {
 }
 
 fn main(rt: HostRuntime) -> io::Result<()> {
-    let mut input = [0; OUT_SIZE];
-    let mut session = Session {
-        ongoing: Ongoing::fresh(),
-        store: [0; STORE_SIZE],
-        line: [0; LONGEST_LINE],
-        out: [0; OUT_SIZE],
-    };
-    session.whole_input(&mut rt.stdin(), &rt, &mut input)?;
+    let mut session = Session::fresh();
+    session.whole_input(&mut rt.stdin(), &rt)?;
     Ok(())
 }

@@ -92,14 +92,18 @@ fn row_with(s: Spot, class: u8, ticks: u8, hand: Option<u16>) -> Row
 pub fn table_of(k: Kernel) -> Table
     ensures { Shows k result }
 {
+    // Copied out first: read from within, the whole state would be copied once more, and docs/BOARD.md has a bound for a listing's stack.
+    let mail = k.mail;
+    let class = k.procs.class;
+    let ticks = k.procs.ticks;
     let at = spots_of(k.procs);
     let mut rows = [bare(UNUSED); sizes::PROCESSES];
     for i in 0..sizes::PROCESSES {
         rows[i] = row_with(
             spot_from(at[i]),
-            k.procs.class[i],
-            k.procs.ticks[i],
-            hand_of(k.mail, Pid(i as u8)),
+            class[i],
+            ticks[i],
+            hand_of(mail, Pid(i as u8)),
         );
     }
     rows[0] = null_row(k.procs.running);

@@ -83,16 +83,17 @@ pub fn spot_of(next: [Pid; QUEUE_NODES], p: Pid) -> Spot
 }
 
 // With the spot of the one that runs, of that class.
-fn with_runner(mut at: [u32; PROCESSES], running: Pid, class: u8) -> [u32; PROCESSES]
-    ensures { Spots (λ p. if eqb p running.0 then spot 1 class 0 else spot_from (get_or at p 0)) result }
+fn with_runner(at: &mut [u32; PROCESSES], running: Pid, class: u8)
+    ensures { Spots (λ p. if eqb p running.0 then spot 1 class 0 else spot_from (get_or at.old p 0)) at.new }
 {
-    set_entry(&mut at, running.0 as usize, mark(RUNNING, class) as u32);
-    at
+    set_entry(at, running.0 as usize, mark(RUNNING, class) as u32);
 }
 
 // The spot of each process as one number, that of the one that runs included.
 pub(crate) fn spots_of(k: Procs) -> [u32; PROCESSES]
     ensures { Spots (spot_of (Stands.numbers k)) result }
 {
-    with_runner(everyone(k.queues.next), k.running, k.class_of(k.running))
+    let mut at = everyone(k.queues.next);
+    with_runner(&mut at, k.running, k.class_of(k.running));
+    at
 }

@@ -1,12 +1,12 @@
 -- Laws of hex pairs: two digits at a time, how many bytes so many digits spell, and which.
 -- Assumes nothing.
-use Prim.Native.Nat.{ℕ, zero, suc, ◌+◌, ◌*◌, ◌/◌, ◌≤◌, ◌<◌, min}
+use Prim.Native.Nat.{ℕ, zero, suc, ◌+◌, ◌-◌, ◌*◌, ◌/◌, ◌≤◌, ◌<◌}
 use mathlib.Core.Path.{◌≡◌, refl, ap, ◌∙◌}
 use mathlib.Core.Bool.{false}
-use mathlib.Core.List.{List, [], ◌∷◌, ◌++◌}
+use mathlib.Core.List.{List, [], ◌∷◌}
 use mathlib.Core.Option.{Option, none, some}
 use native.Mathlib.Omega.{arith}
-use lib.ListN.{length, get_or, drop, length-append}
+use lib.ListN.{length, get_or, drop, length-drop}
 use borrow.Author.Tests.{le-leb, lt-leb}
 use Rattle.std.specs.Prelude as Code
 use Rattle.std.specs.Prelude.{Some, None, option_map, unwrap_or}
@@ -22,13 +22,10 @@ pair_two [] n e = absurd (not_some e)
 pair_two (x ∷ []) n e = absurd (not_some e)
 pair_two (x ∷ y ∷ l) n e = omega arith
 
--- the first two digits, or the last one alone, before the rest
-pairs_next : (digits rest : List ℕ) → length digits ≡ min 2 (length (digits ++ rest)) → 0 < length (digits ++ rest) → pairs (digits ++ rest) ≡ prepend (pair_at digits) (pairs rest)
-pairs_next [] rest e h = absurd (omega arith)
-pairs_next (x ∷ []) [] e h = refl
-pairs_next (x ∷ []) (y ∷ rest) e h = absurd (omega arith)
-pairs_next (x ∷ y ∷ []) rest e h = refl
-pairs_next (x ∷ y ∷ z ∷ l) rest e h = absurd (omega arith)
+pairs_next : (l : List ℕ) → 0 < length l → pairs l ≡ prepend (pair_at l) (pairs (drop 2 l))
+pairs_next [] h = absurd (omega arith)
+pairs_next (x ∷ []) h = refl
+pairs_next (x ∷ y ∷ l) h = refl
 
 -- ---- the loop that counts pairs
 
@@ -47,19 +44,16 @@ counted_none w = record { whole = omega arith; bytes = same (counted (pairs w)) 
     same None = refl
     same (Some n) = ap Some (omega arith)
 
--- A turn of the loop that counts pairs: the next digits stand before what is left of the word after it.
-module _ (w : List ℕ) (n : ℕ) (left digits rest : List ℕ) (f : Counted w n left) (parts : left ≡ digits ++ rest) (size : length digits ≡ min 2 (length left)) (more : 0 < length left) where
-  next : pairs left ≡ prepend (pair_at digits) (pairs rest)
-  next = rw parts (pairs_next digits rest (rw (← parts) size) (rw (← parts) more))
+-- A turn of the loop that counts pairs, where something of the word is left.
+module _ (w : List ℕ) (n : ℕ) (left : List ℕ) (f : Counted w n left) (more : 0 < length left) where
+  pub counted-bad : pair_at left ≡ none → counted (pairs w) ≡ None
+  counted-bad e = f.bytes ∙ rw (pairs_next left more, e)
 
-  pub counted-bad : pair_at digits ≡ none → counted (pairs w) ≡ None
-  counted-bad e = f.bytes ∙ rw (next, e)
-
-  pub counted-more : (x : ℕ) → pair_at digits ≡ some x → Counted w (n + 1) rest
+  pub counted-more : (x : ℕ) → pair_at left ≡ some x → Counted w (n + 1) (drop 2 left)
   counted-more x e =
-      let two : 2 ≤ length digits = pair_two digits x e in
-      let long : length left ≡ length digits + length rest = ap length parts ∙ length-append digits rest in
-      record { whole = omega (arith, f.whole, size); bytes = f.bytes ∙ rw (next, e) (one_more (pairs rest)) }
+      let two : 2 ≤ length left = pair_two left x e in
+      let long : length (drop 2 left) ≡ length left - 2 = length-drop 2 left in
+      record { whole = omega (arith, f.whole); bytes = f.bytes ∙ rw (pairs_next left more, e) (one_more (pairs (drop 2 left))) }
     where
       one_more : (o : Option (List ℕ)) → after n (counted (prepend (some x) o)) ≡ after (n + 1) (counted o)
       one_more none = refl

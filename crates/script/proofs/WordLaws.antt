@@ -13,8 +13,12 @@ use lib.Dec.{eqb, ltb}
 use borrow.Author.Tests.{eq-eqb, eqb-true, ltb-true, ltb-false}
 use Rattle.std.proofs.Common.{◌⊎◌, inl, inr}
 use Rattle.std.proofs.lemmas.Slice.Eq.{HasBytesAt, text_from_reads}
-use Rattle.std.specs.Prelude.{if◌then◌else◌, cond, not, Some, None, position}
+use Rattle.std.specs.Prelude.{if◌then◌else◌, cond, not, Option, Some, None, position}
 use Rattle.std.specs.List.{position_or_len}
+use Rattle.std.proofs.lemmas.Bool.{false_from_ne_true}
+use Rattle.std.proofs.lemmas.Grind.{common_steps}
+use Rattle.std.proofs.lemmas.List.Sums.{position_or_len_is}
+use Rattle.memchr.specs.Find.{IsFirstByte, is_byte}
 use Rattle.answers.specs.Ascii.{space}
 use Rattle.script.specs.Grammar.{begin, words, same}
 
@@ -68,6 +72,15 @@ same_long w p n = elim (same_cases w p) [
 ]
 
 -- ---- where a line is cut
+
+-- what the search of memchr gives is the first place
+pub first_place : (a : ℕ) (l : List ℕ) (r : Option ℕ) → IsFirstByte (is_byte a) l r → r ≡ position (λ x. eqb x a) l
+first_place a l None none =
+    let past : position_or_len (λ x. eqb x a) l ≡ length l = position_or_len_is (λ x. eqb x a) l (length l) 0 (omega arith) (λ k h. false_from_ne_true _ (none k (omega arith) h)) (λ h. absurd (omega arith)) in
+    grind (arith, common_steps, past)
+first_place a l (Some k) found =
+    let here : position_or_len (λ x. eqb x a) l ≡ k = position_or_len_is (λ x. eqb x a) l k 0 (omega (arith, found.0.high)) (λ j h. false_from_ne_true _ (found.0.before j (omega arith) h)) (λ h. found.1) in
+    grind (arith, common_steps, here, found.0.high)
 
 abbrev end_of : List ℕ → ℕ
 end_of l = position_or_len (λ x. eqb x space) l

@@ -35,8 +35,8 @@ fn count_pairs(w: &[u8]) -> Option<u32>
     requires { length w.now ≤ most_bytes + most_bytes }
     ensures { result ≡ counted (pairs w.now) }
 {
-    for digits in w.chunks(2) {
-        pair(digits)?;
+    for i in 0..w.len().div_ceil(2) {
+        pair(&w[2 * i..])?;
     }
     Some((w.len() / 2) as u32)
 }

@@ -1,10 +1,11 @@
 // What the programs for people have in common: a text in a lent area, and whether it is what was asked for or a fault. Assumes nothing.
 #![tactic(auto)]
 
-pub mod streams;
-
 ghost use Rattle.std.specs.Prelude.{length};
 ghost use Rattle.telling.specs.Promise.{Refused, no_state, not_sound, Gives};
+
+/// The bytes of the area that an input is read into: one more than a state area has, so that a longer input is seen as one of another length.
+pub const INPUT: usize = board::SIZE + 1;
 
 /// How many bytes of the lent area the text takes: an Ok's is what was asked for, an Err's a fault.
 pub type Told = Result<usize, usize>;

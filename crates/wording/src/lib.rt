@@ -17,6 +17,7 @@ ghost use Rattle.wording.specs.Page.{page, page_room, row_at};
 ghost use Rattle.wording.specs.Promises.{room};
 ghost use Rattle.wording.specs.Words.{reason_line, sentence};
 
+use crate::page::Page;
 use crate::phrase::Line;
 use reasons::Reason;
 use rows::Row;
@@ -53,5 +54,7 @@ pub fn put_page(out: &mut [u8], births: [u8; PROCESSES], rows: [Row; PROCESSES])
     ensures written { Written (page (name (count_in births)) (row_at rows)) out.old out.new result }
     ensures short { length (page (name (count_in births)) (row_at rows)) ≤ page_room }
 {
-    page::page_of(births, rows).put(out)
+    let mut text = Page::new();
+    page::page_of(&mut text, births, rows);
+    text.put(out)
 }

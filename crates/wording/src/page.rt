@@ -1,5 +1,5 @@
 // The rows of all processes as a page, said line by line. Assumes nothing.
-ghost use Rattle.std.specs.Prelude.{◌≡◌};
+ghost use Rattle.std.specs.Prelude.{◌≡◌, []};
 ghost use Rattle.names.specs.Counts.{count_in};
 ghost use Rattle.plain.specs.Names.{name};
 ghost use Rattle.plain.specs.Sizes.{processes};
@@ -53,13 +53,15 @@ fn line_of(births: [u8; PROCESSES], process: u8, row: Row) -> Line
     Line::new()
 }
 
-pub(crate) fn page_of(births: [u8; PROCESSES], rows: [Row; PROCESSES]) -> Page
-    ensures { result ≡ page (name (count_in births)) (row_at rows) }
+// Into a page that is lent: handed on, it would stand on the stack three times.
+pub(crate) fn page_of(text: &mut Page, births: [u8; PROCESSES], rows: [Row; PROCESSES])
+    requires { text.old ≡ [] }
+    ensures { text.new ≡ page (name (count_in births)) (row_at rows) }
 {
-    let mut page = Page::new().say(header().text());
+    text.add(header().text());
     for i in 0..PROCESSES {
         let line = line_of(births, i as u8, rows[i]);
-        page = page.say(line.text());
+        text.add(line.text());
     }
-    page.say(unused_line(unused_in(rows)).text())
+    text.add(unused_line(unused_in(rows)).text());
 }

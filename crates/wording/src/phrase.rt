@@ -30,6 +30,8 @@ impl<const ROOM: usize> Model for Phrase<ROOM> {
 }
 
 impl<const ROOM: usize> Phrase<ROOM> {
+    // By itself, so that the zeros that a page is made of are gone from the stack once it is there.
+    #[inline(never)]
     pub(crate) fn new() -> Self
         ensures { result ≡ [] }
     {
@@ -39,13 +41,21 @@ impl<const ROOM: usize> Phrase<ROOM> {
         }
     }
 
-    pub(crate) fn say(mut self, piece: &[u8]) -> Self
-        ensures { result ≡ cut ROOM self.entry piece.now }
+    pub(crate) fn add(&mut self, piece: &[u8])
+        ensures { self.new ≡ cut ROOM self.old piece.now }
     {
         let start = self.length;
         let fits = piece.len().min(ROOM - start);
-        self.bytes[start..start + fits].copy_from_slice(&piece[..fits]);
+        let bytes = &mut self.bytes[..];
+        bytes[start..start + fits].copy_from_slice(&piece[..fits]);
         self.length = start + fits;
+    }
+
+    // The same of a line, which is small enough to be handed on.
+    pub(crate) fn say(mut self, piece: &[u8]) -> Self
+        ensures { result ≡ cut ROOM self.entry piece.now }
+    {
+        self.add(piece);
         self
     }
 

@@ -6,11 +6,10 @@ use Rattle.feed.proofs.BufferLaws.{capped_holds}
 use Rattle.feed.proofs.Cutting.{ends_line, none_free, inside}
 use Rattle.feed.proofs.Loop.{begun, line-more, stops_full, stops-at_end, stops_in_line}
 use Rattle.feed.proofs.feed.Goals as goal
-use Rattle.std.proofs.lemmas.Iterator.{YieldsList-from_slice}
-use Rattle.std.proofs.lemmas.Iterator.Search.{position_from_yields_List}
+use Rattle.feed.specs.Cut.{newline}
+use Rattle.script.proofs.WordLaws.{first_place}
 use Rattle.std.specs.List.{position}
 use borrow.Author.Rules.{rules}
-use borrow.Author.Tests.{tests}
 use lib.ListN.{length, take, drop, length-drop}
 use lib.Seq.{take_all}
 use mathlib.Core.List.{List}
@@ -36,7 +35,7 @@ returns-in_default-clause-feeds c =
     let at = c.loop-used in
     let i = at.invariant.0 in
     let rest = rest_is c.args.chunk.now at.used in
-    let first : c.position.result ≡ position ends_line (drop at.used c.args.chunk.now) = position_from_yields_List _ _ _ _ c.position.ensures.ran (YieldsList-from_slice _ (c.iter.ensures.rest ∙ rest)) (λ x b q k. search (rules, tests)) in
+    let first : c.memchr.result ≡ position ends_line (drop at.used c.args.chunk.now) = first_place newline _ _ (rw rest at c.memchr.ensures) in
     let none = none_free (drop at.used c.args.chunk.now) (sym first ∙ c.in_default.is) in
     λ p h.
     let g = at.invariant.1 p (rw c.capped-held.ensures.same (capped_holds h)) in
@@ -47,7 +46,7 @@ loop-used-preserved c =
     let at = c.loop-used in
     let i = at.invariant.0 in
     let rest = rest_is c.args.chunk.now at.used in
-    let first : c.position.result ≡ position ends_line (drop at.used c.args.chunk.now) = position_from_yields_List _ _ _ _ c.position.ensures.ran (YieldsList-from_slice _ (c.iter.ensures.rest ∙ rest)) (λ x b q k. search (rules, tests)) in
+    let first : c.memchr.result ≡ position ends_line (drop at.used c.args.chunk.now) = first_place newline _ _ (rw rest at c.memchr.ensures) in
     let e = sym first ∙ c.in-Some.is in (
       (search rules, search rules, omega (arith, inside (drop at.used c.args.chunk.now) e, length-drop at.used c.args.chunk.now), omega (arith, c.answer-t.ensures.within, i.1), search rules, λ e. absurd (omega arith)),
       λ p h.

@@ -15,5 +15,5 @@ returns c p h =
     let r = a.k.running.0 in
     c.with_runner.ensures p h ∙ ⊎_elim
     (λ (e : p ≡ r). rw (eq-eqb p r e, e, c.class_of.ensures))
-    (λ (d : p ≢ r). rw (ne_eqb p r d, c.everyone.ensures))
+    (λ (d : p ≢ r). rw (ne_eqb p r d, c.everyone-at.ensures))
     (cases_eq p r)

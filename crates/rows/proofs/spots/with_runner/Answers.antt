@@ -14,9 +14,9 @@ use native.Mathlib.Omega.{arith}
 pub returns : goal.returns
 returns c p h =
     let a = c.args in
-    let long : length a.at ≡ processes = search rules in
+    let long : length a.at.now ≡ processes = search rules in
     let m = c.mark.ensures in
     ⊎_elim
-    (λ (e : p ≡ a.running.0). rw (c.set_entry.ensures, eq-eqb p a.running.0 e, e, get_or-set_same a.at a.running.0 c.mark.result 0 (omega arith), m) (decoded 1 a.class 0 (omega arith) (search rules) (omega arith)))
-    (λ (d : p ≢ a.running.0). rw (c.set_entry.ensures, ne_eqb p a.running.0 d, get_or-set_other a.at a.running.0 p c.mark.result 0 d))
+    (λ (e : p ≡ a.running.0). rw (c.set_entry.ensures, eq-eqb p a.running.0 e, e, get_or-set_same a.at.now a.running.0 c.mark.result 0 (omega arith), m) (decoded 1 a.class 0 (omega arith) (search rules) (omega arith)))
+    (λ (d : p ≢ a.running.0). rw (c.set_entry.ensures, ne_eqb p a.running.0 d, get_or-set_other a.at.now a.running.0 p c.mark.result 0 d))
     (cases_eq p a.running.0)

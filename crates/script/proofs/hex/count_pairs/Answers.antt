@@ -1,28 +1,37 @@
 -- `script::hex::count_pairs` meets its contract: a turn of the loop reads two digits, or refuses the last one alone.
 -- Assumes nothing.
+use Prim.Native.Nat.{ℕ, ◌+◌, ◌*◌, ◌<◌}
 use Rattle.script.proofs.HexLaws.{counted_none, counted-bad, counted-more, counted-all}
 use Rattle.script.proofs.NumberLaws.{number_none, number_some}
+use Rattle.script.proofs.WordLaws.{all_from}
 use Rattle.script.proofs.hex.count_pairs.Goals as goal
-use borrow.Author.Rules.{rules}
-use lib.ListN.{length-append}
+use lib.ListN.{length, drop, length-drop}
+use lib.Seq.{drop-drop}
+use mathlib.Core.Path.{◌≡◌, sym, ◌∙◌}
+use native.Mathlib.Omega.{arith}
 
-pub loop-digits-init : goal.loop-digits-init
-loop-digits-init c = (search rules, tt, search rules, search (rules, counted_none c.args.w.now))
-
-pub loop-digits-preserved : goal.loop-digits-preserved
-loop-digits-preserved c =
-    let l = c.loop-digits in
-    let steps = c.in-Some.ensures.steps in
-    let found = number_some _ c.pair.ensures c.in_ok-pair.was in
-    let more = counted-more c.args.w.now _ _ _ _ l.invariant.3 steps.1.0 (rw l.invariant.2 at steps.1.1) steps.1.2 _ found in
-    (search rules, tt, search rules, rw length-append more)
+pub loop-i-init : goal.loop-i-init
+loop-i-init c = counted_none c.args.w.now
 
 pub returns-in_err-pair : goal.returns-in_err-pair
 returns-in_err-pair c =
-    let l = c.loop-digits in
-    let steps = c.in-Some.ensures.steps in
-    let none = number_none _ c.pair.ensures c.in_err-pair.was in
-    rw (counted-bad c.args.w.now _ _ _ _ l.invariant.3 steps.1.0 (rw l.invariant.2 at steps.1.1) steps.1.2 none) (search rules)
+    let w = c.args.w.now in
+    let l = c.loop-i in
+    let more : 0 < length (drop (2 * l.i) w) = omega (arith, length-drop (2 * l.i) w, c.div_ceil-i-end.ensures) in
+    let none = number_none _ (rw all_from at c.pair.ensures) c.in_err-pair.was in
+    rw (counted-bad w l.i (drop (2 * l.i) w) l.invariant more none) c.from_residual.ensures
+
+pub loop-i-preserved : goal.loop-i-preserved
+loop-i-preserved c =
+    let w = c.args.w.now in
+    let l = c.loop-i in
+    let more : 0 < length (drop (2 * l.i) w) = omega (arith, length-drop (2 * l.i) w, c.div_ceil-i-end.ensures) in
+    let found = number_some _ (rw all_from at c.pair.ensures) c.in_ok-pair.was in
+    let on : 2 * (l.i + 1) ≡ 2 * l.i + 2 = omega arith in
+    rw (on, sym (drop-drop 2 (2 * l.i) w)) (counted-more w l.i (drop (2 * l.i) w) l.invariant more _ found)
 
 pub returns : goal.returns
-returns c = rw (counted-all c.args.w.now _ _ c.loop-digits.invariant.3 c.in-None.ensures.steps.1.0)
+returns c =
+    let w = c.args.w.now in
+    let l = c.loop-i in
+    rw (counted-all w l.i (drop (2 * l.i) w) l.invariant (omega (arith, length-drop (2 * l.i) w, c.div_ceil-i-end.ensures)))

@@ -7,4 +7,4 @@ use Rattle.wording.proofs.page.page_of.Given as goal
 use Rattle.wording.specs.Page.{row_at}
 
 abbrev pub invariant-loop-i : goal.invariant-loop-i
-invariant-loop-i l = Said (name (count_in l.births)) (row_at l.rows) l.i l.page
+invariant-loop-i l = Said (name (count_in l.births)) (row_at l.rows) l.i l.text

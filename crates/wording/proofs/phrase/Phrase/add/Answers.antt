@@ -1,9 +1,9 @@
--- `wording::phrase::Phrase::say` meets its contract.
+-- `wording::phrase::Phrase::add` meets its contract.
 -- Assumes nothing.
 use Prim.Native.Nat.{◌-◌, min}
 use Rattle.std.proofs.lemmas.Grind.{common_steps}
 use Rattle.wording.proofs.PhraseLaws.{cut_bytes}
-use Rattle.wording.proofs.phrase.Phrase.say.Goals as goal
+use Rattle.wording.proofs.phrase.Phrase.add.Goals as goal
 use borrow.Author.Rules.{rules}
 use lib.ListN.{length}
 use mathlib.Core.Path.{◌≡◌}
