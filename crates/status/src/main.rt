@@ -11,8 +11,7 @@ use std::io;
 use telling::INPUT;
 use wording::LONGEST_PAGE;
 
-// These two stand in why too. In a library they would be public, and the only public functions that could give a second answer: what is
-// read, and whether a write fails, no promise can say.
+// Each program has these two of its own, and so has why. `telling::streams` has them for other crates.
 
 // Reads until the area is full or the input ends; gives how many bytes were read.
 fn read_full(reader: &mut impl io::Read, area: &mut [u8]) -> io::Result<usize>

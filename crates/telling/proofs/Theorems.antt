@@ -1,15 +1,15 @@
--- The theorems: a fault has one text, what is told has no second answer, and there is room for it.
+-- The theorems: a fault has one text; what is told has no second answer, nor has what is read or written where the stream's bytes are known; there is room for what is told.
 -- Assumes nothing.
-use Prim.Native.Nat.{ℕ}
+use Prim.Native.Nat.{ℕ, min}
 use mathlib.Core.Bool.{Bool, true, false, true≢false, false≢true}
 use mathlib.Core.List.{List}
-use mathlib.Core.Path.{◌≡◌, refl, ap}
+use mathlib.Core.Path.{◌≡◌, refl, sym, ap, ◌∙◌}
 use native.Mathlib.Omega.{arith}
 use lib.Dec.{eqb}
-use lib.ListN.{length}
-use Rattle.std.specs.Prelude.{cond, Ok, Err}
+use lib.ListN.{length, take, drop}
+use Rattle.std.specs.Prelude.{cond, Ok, Err, Some, None}
 use Rattle.answers.proofs.AreaLaws.{written-whole, one_written}
-use Rattle.telling.specs.Theorems.{Same, One, OneTold, OneFault, TextFits}
+use Rattle.telling.specs.Theorems.{Same, One, OneTold, OneFault, TextFits, OneRead, OneLine}
 use Rattle.telling.specs.Promise.{no_state, Refused, refused, OfInput, Told, good, long}
 
 pub one_fault : OneFault
@@ -37,3 +37,13 @@ one_told Is one room old new new' r r' a b =
 
 pub text_fits : TextFits
 text_fits Is room old new r g h = written-whole g.written (omega (arith, g.short))
+
+pub one_read : OneRead
+one_read xs new new' area area' got got' long a b =
+    let same : got ≡ got' = a.0 ∙ ap (λ n. min n (length xs)) long ∙ sym b.0 in
+    (same, a.1 ∙ ap (λ n. take n xs) same ∙ sym b.1, a.2 ∙ ap (λ n. Some (drop n xs)) same ∙ sym b.2)
+
+pub one_line : OneLine
+one_line held line None new' a b = absurd a
+one_line held line (Some xs) None a b = absurd b
+one_line held line (Some xs) (Some ys) a b = ap Some (a ∙ sym b)

@@ -1,6 +1,8 @@
 // What the programs for people have in common: a text in a lent area, and whether it is what was asked for or a fault. Assumes nothing.
 #![tactic(auto)]
 
+pub mod streams;
+
 ghost use Rattle.std.specs.Prelude.{length};
 ghost use Rattle.telling.specs.Promise.{Refused, no_state, not_sound, Gives};
 

@@ -25,8 +25,7 @@ fn first_word<'a>(rt: &impl Env, area: &'a mut [u8]) -> &'a [u8]
     }
 }
 
-// These two stand in status too. In a library they would be public, and the only public functions that could give a second answer: what is
-// read, and whether a write fails, no promise can say.
+// Each program has these two of its own, and so has status. `telling::streams` has them for other crates.
 
 // Reads until the area is full or the input ends; gives how many bytes were read.
 fn read_full(reader: &mut impl io::Read, area: &mut [u8]) -> io::Result<usize>
