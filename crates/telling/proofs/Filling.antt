@@ -19,7 +19,7 @@ filled (Some xs) (Some ys) area got p h e =
     (⊎_elim (λ full. omega arith) (λ ended. let none : length ys ≡ 0 = ap length ended in omega arith) e, sym start, ap Some (sym rest))
 
 -- what one read gives stands behind what the area holds
-pub behind : (at n room : ℕ) (area new : List ℕ) → at ≤ length area → n ≤ length new → take at area ++ take n new ≡ take (at + n) (put_mid at room area new)
+behind : (at n room : ℕ) (area new : List ℕ) → at ≤ length area → n ≤ length new → take at area ++ take n new ≡ take (at + n) (put_mid at room area new)
 behind at n room area new h fits =
     let rest = new ++ post_of at room area in
     sym (subst (λ k. take (k + n) (take at area ++ rest) ≡ take at area ++ take n new) (length-take-le at area h) (take-append-add (take at area) rest n ∙ ap (λ t. take at area ++ t) (take-append-le n new (post_of at room area) fits)))

@@ -7,6 +7,7 @@ pub use crate::INPUT;
 use std::io;
 
 /// Reads until the area is full or the input ends; gives how many bytes were read.
+#[tactic(auto, using(crate::proofs::Filling::filled, crate::proofs::Filling::one_more))]
 pub fn read_full<R: io::Read>(reader: &mut R, area: &mut [u8]) -> io::Result<usize>
     ensures within { IfOk result (λ got. got ≤ length area.new) }
     ensures known { IfOk result (Fills (R.remaining reader.old) (R.remaining reader.new) area.new) }

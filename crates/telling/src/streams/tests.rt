@@ -67,16 +67,34 @@ fn writes_a_line(rt: HostRuntime) -> Result<(), Fail> {
     Ok(())
 }
 
-// In the text, and at the newline alone.
+// Fails at its first write, and takes all that comes after.
+#[derive(Drop)]
+struct FailsOnce {
+    failed: bool,
+}
+
+impl io::Write for FailsOnce {
+    fn write(&mut self, buf: &[u8]) -> io::Result<usize> {
+        if !self.failed {
+            self.failed = true;
+            return Err(io::Error::from(ErrorKind::ConnectionReset));
+        }
+        Ok(buf.len())
+    }
+
+    fn flush(&mut self) -> io::Result<()> {
+        Ok(())
+    }
+}
+
+// At the text, and at the newline.
 #[test]
 fn hands_on_that_a_write_failed(rt: HostRuntime) {
-    for room in [0, 10, 22] {
-        let mut area = [b'-'; 22];
-        let mut rest = &mut area[..room];
-        let failed = write_line(&mut rest, LINE);
-        assert!(rt;
-            failed.is_err_and(|e| e.kind() == ErrorKind::WriteZero),
-            "into {room}"
-        );
-    }
+    let mut once = FailsOnce { failed: false };
+    let failed = write_line(&mut once, LINE);
+    assert!(rt; failed.is_err_and(|e| e.kind() == ErrorKind::ConnectionReset));
+    let mut area = [b'-'; 22];
+    let mut full = &mut area[..];
+    let failed = write_line(&mut full, LINE);
+    assert!(rt; failed.is_err_and(|e| e.kind() == ErrorKind::WriteZero));
 }
